@@ -10,7 +10,8 @@ ghost use Rattle.art_tree.specs.declared.tree.point.Point.TheVariants.{Exact, Re
 ghost use Rattle.art_tree.specs.Pairs.{pairs_of};
 ghost use Rattle.art_insert.specs.Places.{IsReady, IsPlaced};
 ghost use Rattle.art_insert.specs.Within.{as_tried, added, added_ok};
-ghost use Rattle.art_tree.specs.Adding.{Adds, Conflict};
+ghost use Rattle.art_tree.specs.Adding.{Adds};
+ghost use Rattle.art_tree.specs.declared.tree.add.Added.TheVariants.{Conflict};
 
 use art_tree::{Added, LeafId, Point, Tree, Visits};
 use blart_keys::{AsBytes, InsertPrefixError, NoPrefixesBytes, TryInsertError};

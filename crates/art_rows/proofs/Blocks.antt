@@ -1,12 +1,11 @@
--- The numbers of a block.
-use Rattle.std.proofs.Common.{◌≡◌, ◌⊎◌, ℕ, zero, suc, ◌+◌, ◌*◌, ◌<◌, ◌≤◌, List, [], ◌∷◌, ◌++◌, length, take, drop, get_or, refl, ap, ◌∙◌, Some, true, false, cond, eqb, eq-eqb, inl, inr, arith}
-use Rattle.std.proofs.lemmas.Bool.Decides.{leb_tells, eqb_tells}
-use Rattle.std.proofs.lemmas.List.{take-append-drop, length-map, length-take-le, map-append, take-map, drop-map}
-use Rattle.std.proofs.lemmas.List.Sums.{sum_by-append, sum_by-cons}
+-- How often a number is in a list.
+use Rattle.std.proofs.Common.{◌≡◌, ◌≢◌, ◌⊎◌, ℕ, zero, suc, ◌+◌, ◌<◌, ◌≤◌, List, [], ◌∷◌, ◌++◌, length, take, drop, get_or, set, refl, sym, ap, ◌∙◌, true, false, cond, eqb, eq-eqb, inl, inr, arith}
+use Rattle.std.proofs.lemmas.Bool.Decides.{eqb_tells}
+use Rattle.std.proofs.lemmas.List.{take-append-drop, take-take}
+use Rattle.std.proofs.lemmas.List.Sums.{sum_by-append, sum_by-cons, sum_by-set}
 use Rattle.std.specs.List.{range_with_len}
-use Rattle.art_rows.specs.Rows.{among, nth}
-use Rattle.art_rows.specs.Blocks.{times, row_of, numbers_at, AreWithin, ArePlaces}
-use Rattle.art_rows.specs.declared.row.TheConstants.{ROW}
+use Rattle.art_slots.specs.Words.{times}
+use Rattle.art_rows.specs.Rows.{among, place_in}
 use Rattle.art_rows.proofs.NumbersLemmas.{eqb_same, eqb_other}
 
 times-same : (m : ℕ) (ns : List ℕ) (n : ℕ) → eqb m n ≡ true → times (m ∷ ns) n ≡ times ns n + 1
@@ -42,27 +41,41 @@ next_there (m ∷ ns) (suc k) d l = elim (eqb_tells m (get_or ns k d)) [
   | inr t ↦ (let e = times-other m ns (get_or ns k d) t.0 in let i = next_there ns k d (omega arith) in omega arith)
 ]
 
--- the number at a place is not among the numbers before it
-pub next_fresh : (ns : List ℕ) (k d : ℕ) → ArePlaces ns → k < length ns → among (take k ns) (get_or ns k d) ≡ false
-next_fresh ns k d p l = among-times (take k ns) (get_or ns k d) (go ns k l (p.once (get_or ns k d)))
-  where
-    go : (ns : List ℕ) (k : ℕ) → k < length ns → times ns (get_or ns k d) ≤ 1 → times (take k ns) (get_or ns k d) ≡ 0
-    go [] k l h = absurd (omega arith)
-    go (m ∷ ns) zero l h = refl
-    go (m ∷ ns) (suc k) l h = elim (eqb_tells m (get_or ns k d)) [
-      | inl t ↦ absurd (let a = times-same m ns (get_or ns k d) t.0 in let b = next_there ns k d (omega arith) in omega arith)
-      | inr t ↦ (let a = times-other m ns (get_or ns k d) t.0 in times-other m (take k ns) (get_or ns k d) t.0 ∙ go ns k (omega arith) (omega arith))
-    ]
+-- a number that is in the list occurs there
+pub times-among : (ns : List ℕ) (n : ℕ) → among ns n ≡ true → 0 < times ns n
+times-among [] n h = (let f : false ≡ true = h in absurd cc)
+times-among (m ∷ ns) n h = elim (eqb_tells m n) [
+  | inl t ↦ (let e = times-same m ns n t.0 in omega arith)
+  | inr t ↦ (let e = times-other m ns n t.0 in let i = times-among ns n (rw t.0 at h) in omega arith)
+]
+
+-- a number that occurs once has one place
+pub once_at : (ns : List ℕ) (n k d : ℕ) → times ns n ≡ 1 → k < length ns → get_or ns k d ≡ n → place_in ns n ≡ k
+once_at [] n k d o l e = absurd (omega arith)
+once_at (m ∷ ns) n zero d o l e = rw (eq-eqb m n e) refl
+once_at (m ∷ ns) n (suc k) d o l e = elim (eqb_tells m n) [
+  | inl t ↦ absurd (let a = times-same m ns n t.0 in let b : 0 < times ns (get_or ns k d) = next_there ns k d (omega arith) in let c : 0 < times ns n = rw e at b in omega arith)
+  | inr t ↦ (let a = times-other m ns n t.0 in rw t.0 (ap suc (once_at ns n k d (omega arith) (omega arith) e)))
+]
+
+-- a number that occurs is in the list
+pub among-once : (ns : List ℕ) (n : ℕ) → 0 < times ns n → among ns n ≡ true
+among-once [] n h = absurd (let z : times [] n ≡ 0 = refl in omega arith)
+among-once (m ∷ ns) n h = elim (eqb_tells m n) [
+  | inl t ↦ rw t.0 refl
+  | inr t ↦ (let e = times-other m ns n t.0 in rw t.0 (among-once ns n (omega arith)))
+]
 
 -- a number less than the first of a range, or greater than the last, is not in the range
-times-range-outside : (first n c : ℕ) → (c < first) ⊎ (first + n ≤ c) → times (range_with_len first n) c ≡ 0
+pub times-range-outside : (first n c : ℕ) → (c < first) ⊎ (first + n ≤ c) → times (range_with_len first n) c ≡ 0
 times-range-outside first zero c h = refl
 times-range-outside first (suc n) c h =
     let e : eqb first c ≡ false = eqb_other first c (elim h [ inl l ↦ λ s. omega arith | inr l ↦ λ s. omega arith ]) in
     let a : times (range_with_len first (suc n)) c ≡ times (range_with_len (first + 1) n) c = times-other first (range_with_len (first + 1) n) c e in
     a ∙ times-range-outside (first + 1) n c (elim h [ inl l ↦ inl (omega arith) | inr l ↦ inr (omega arith) ])
 
-times-range : (first n c : ℕ) → times (range_with_len first n) c ≤ 1
+-- no number occurs twice in a range
+pub times-range : (first n c : ℕ) → times (range_with_len first n) c ≤ 1
 times-range first zero c = (let z : times (range_with_len first 0) c ≡ 0 = refl in omega arith)
 times-range first (suc n) c = elim (eqb_tells first c) [
   | inl t ↦ (
@@ -75,85 +88,44 @@ times-range first (suc n) c = elim (eqb_tells first c) [
       omega arith)
 ]
 
--- the cells of a block, in order, are places
-pub cells-apart : ArePlaces (range_with_len 0 ROW)
-cells-apart = record {
-  once = λ c. times-range 0 ROW c;
-  within = λ c h. elim (leb_tells ROW c) [
-    | inl l ↦ absurd (let z = times-range-outside 0 ROW c (inr (omega (arith, l.1))) in omega arith)
-    | inr l ↦ l.1
-  ];
-}
+-- what a list has after one of its numbers was replaced by a number that it did not have
+pub record Replaced (ns : List ℕ) (out new n : ℕ) : Type 0 where
+  pub once : times ns n ≤ 1
+  pub other : n ≢ out
+  pub kept : (n ≡ new) ⊎ ((n ≢ new) × (0 < times ns n))
 
--- cells in another order are places too
-pub places_moved : (xs ys : List ℕ) → ((n : ℕ) → times ys n ≡ times xs n) → ArePlaces xs → ArePlaces ys
-places_moved xs ys same p = record {
-  once = λ n. (let e = same n in let o = p.once n in omega arith);
-  within = λ n a. p.within n (let e = same n in omega arith);
-}
+pub replaced : (ns : List ℕ) (k out new n : ℕ) → k < length ns → get_or ns k 0 ≡ out → out ≢ new → times ns new ≡ 0 → ((m : ℕ) → times ns m ≤ 1) → 0 < times (set ns k new) n → (times (set ns k new) n ≤ 1) × Replaced ns out new n
+replaced ns k out new n l e ne none once h =
+    let s : times (set ns k new) n + cond (eqb (get_or ns k 0) n) 1 0 ≡ times ns n + cond (eqb new n) 1 0 = sum_by-set (λ m. cond (eqb m n) 1 0) ns k new 0 l in
+    let q : times (set ns k new) n + cond (eqb out n) 1 0 ≡ times ns n + cond (eqb new n) 1 0 = rw e at s in
+    let o = once n in
+    elim (eqb_tells new n) [
+      | inl t ↦
+          let z : times ns n ≡ 0 = ap (times ns) (sym t.1) ∙ none in
+          let f : eqb out n ≡ false = eqb_other out n (λ x. ne (x ∙ sym t.1)) in
+          let g : times (set ns k new) n + 0 ≡ times ns n + 1 = rw (f, t.0) at q in
+          (omega arith, record { once = omega arith; other = λ x. ne (sym x ∙ sym t.1); kept = inl (sym t.1) })
+      | inr t ↦ elim (eqb_tells out n) [
+        | inl u ↦ (let g : times (set ns k new) n + 1 ≡ times ns n + 0 = rw (u.0, t.0) at q in absurd (omega arith))
+        | inr u ↦
+            let g : times (set ns k new) n + 0 ≡ times ns n + 0 = rw (u.0, t.0) at q in
+            (omega arith, record { once = o; other = λ x. u.1 (sym x); kept = inr (λ x. t.1 (sym x), omega arith) })
+      ]
+    ]
 
--- ---- cells of a block
-
-pub within_take : (ns : List ℕ) (k : ℕ) → AreWithin ns → AreWithin (take k ns)
-within_take ns k w n h = w n (let a = times-take ns k n in omega arith)
-
-pub within_drop : (ns : List ℕ) (k : ℕ) → AreWithin ns → AreWithin (drop k ns)
-within_drop ns k w n h = w n (
-    let a = times-append (take k ns) (drop k ns) n in
-    let b : times (take k ns ++ drop k ns) n ≡ times ns n = ap (λ l. times l n) (take-append-drop k ns) in
-    omega arith)
-
--- the cell at a place is a cell of a block
-pub within_at : (ns : List ℕ) (k d : ℕ) → AreWithin ns → k < length ns → get_or ns k d < ROW
-within_at ns k d w l = w (get_or ns k d) (next_there ns k d l)
-
--- if all cells are cells of a block, so are the first cell and the others
-pub within_cons : (n : ℕ) (ns : List ℕ) → AreWithin (n ∷ ns) → (n < ROW) × AreWithin ns
-within_cons n ns w = (w n (let e = times-same n ns n (eqb_same n) in omega arith), within_drop (n ∷ ns) 1 w)
-
--- if all cells are cells of a block, so are the last cell and the others
-pub within_more : (ns : List ℕ) (n : ℕ) → AreWithin (ns ++ n ∷ []) → (n < ROW) × AreWithin ns
-within_more ns n w = (
-  w n (let a = times-append ns (n ∷ []) n in let e = times-same n [] n (eqb_same n) in omega arith),
-  λ m h. w m (let a = times-append ns (n ∷ []) m in omega arith),
-)
-
--- ---- the numbers of cells
-
--- there are as many numbers as cells
-pub length-numbers : (first : ℕ) (cells : List ℕ) → length (numbers_at first cells) ≡ length cells
-length-numbers first cells = length-map cells (λ c. first + c)
-
--- the number at a place is `first` plus the cell at that place
-pub nth-numbers : (first : ℕ) (cells : List ℕ) (k d : ℕ) → k < length cells → nth (numbers_at first cells) k ≡ Some (first + get_or cells k d)
-nth-numbers first [] k d l = absurd (omega arith)
-nth-numbers first (c ∷ cells) zero d l = refl
-nth-numbers first (c ∷ cells) (suc k) d l = nth-numbers first cells k d (omega arith)
-
--- a number is among the numbers if and only if its cell is among the cells
-pub among-numbers_at : (first : ℕ) (cells : List ℕ) (c : ℕ) → among (numbers_at first cells) (first + c) ≡ among cells c
-among-numbers_at first [] c = refl
-among-numbers_at first (d ∷ cells) c = elim (eqb_tells d c) [
-  | inl t ↦ (let e : eqb (first + d) (first + c) ≡ true = eq-eqb (first + d) (first + c) (omega (arith, t.1)) in rw (t.0, e) refl)
-  | inr t ↦ (let e : eqb (first + d) (first + c) ≡ false = eqb_other (first + d) (first + c) (λ s. t.1 (omega arith)) in rw (t.0, e) (among-numbers_at first cells c))
-]
-
--- the row of each number of the cells of block b is b
-pub number_of : (b : ℕ) (cells : List ℕ) → AreWithin cells → (n : ℕ) → among (numbers_at (ROW * b) cells) n ≡ true → row_of n ≡ b
-number_of b [] w n h = absurd cc
-number_of b (c ∷ cells) w n h = elim (eqb_tells (ROW * b + c) n) [
-  | inl t ↦ (let l = (within_cons c cells w).0 in omega (arith, t.1))
-  | inr t ↦ number_of b cells (within_cons c cells w).1 n (rw t.0 at h)
-]
-
--- the first k cells have k numbers
-pub length-first : (first k : ℕ) (cells : List ℕ) → k ≤ length cells → length (numbers_at first (take k cells)) ≡ k
-length-first first k cells l = length-numbers first (take k cells) ∙ length-take-le k cells l
-
--- a cell inserted at a place inserts its number at that place
-pub numbers-put : (first c place : ℕ) (cells : List ℕ) → numbers_at first (take place cells ++ c ∷ drop place cells) ≡ take place (numbers_at first cells) ++ (first + c) ∷ drop place (numbers_at first cells)
-numbers-put first c place cells = map-append (λ d. first + d) (take place cells) (c ∷ drop place cells) ∙ rw (take-map (λ d. first + d) place cells, drop-map (λ d. first + d) place cells) refl
-
--- a cell removed at a place removes the number at that place
-pub numbers-cut : (first place : ℕ) (cells : List ℕ) → numbers_at first (take place cells ++ drop (place + 1) cells) ≡ take place (numbers_at first cells) ++ drop (place + 1) (numbers_at first cells)
-numbers-cut first place cells = map-append (λ d. first + d) (take place cells) (drop (place + 1) cells) ∙ rw (take-map (λ d. first + d) place cells, drop-map (λ d. first + d) (place + 1) cells) refl
+-- the number at a place is not among the numbers before it, if it is in the list once
+pub next_fresh : (ns : List ℕ) (m k d : ℕ) → m ≤ k → k < length ns → times ns (get_or ns k d) ≤ 1 → among (take m ns) (get_or ns k d) ≡ false
+next_fresh ns m k d le l o =
+    let z = go ns k l o in
+    let e : take m (take k ns) ≡ take m ns = take-take m k ns le in
+    let t : times (take m (take k ns)) (get_or ns k d) ≤ times (take k ns) (get_or ns k d) = times-take (take k ns) m (get_or ns k d) in
+    let u : times (take m ns) (get_or ns k d) ≤ times (take k ns) (get_or ns k d) = rw e at t in
+    among-times (take m ns) (get_or ns k d) (omega arith)
+  where
+    go : (ns : List ℕ) (k : ℕ) → k < length ns → times ns (get_or ns k d) ≤ 1 → times (take k ns) (get_or ns k d) ≡ 0
+    go [] k l h = absurd (omega arith)
+    go (m ∷ ns) zero l h = refl
+    go (m ∷ ns) (suc k) l h = elim (eqb_tells m (get_or ns k d)) [
+      | inl t ↦ absurd (let a = times-same m ns (get_or ns k d) t.0 in let b = next_there ns k d (omega arith) in omega arith)
+      | inr t ↦ (let a = times-other m ns (get_or ns k d) t.0 in times-other m (take k ns) (get_or ns k d) t.0 ∙ go ns k (omega arith) (omega arith))
+    ]

@@ -14,8 +14,3 @@ pub use Rattle.art_rows.proofs.NumbersLemmas.{leaf_in-with_now, others-with_pair
 pub use Rattle.art_rows.proofs.NumbersLemmas.{same_first, same_last, same_distinct}
 -- copies
 pub use Rattle.art_rows.proofs.Copies.{numbers-copies}
--- an item under another number
-pub use Rattle.art_rows.proofs.Carried.{with_number-has, with_number-now}
--- rows that are cut
-pub use Rattle.art_rows.proofs.Cuts.{cut_room, near_place, near_way, crowd_spare, crowded_row, crowded_near}
-pub use Rattle.art_rows.proofs.RowRoomLemmas.{room_less}

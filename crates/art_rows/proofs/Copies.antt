@@ -88,7 +88,6 @@ module _ {K V : Type 0} (is_key : K → K → Type 0) (is_value : V → V → Ty
       joined = numbers-copies (gather leaves (numbers rows)) (gather copies (numbers rows)) (gather-copies (numbers rows)) ∙ f.joined;
       filled = f.filled;
       apart = f.apart;
-      own = f.own;
       counted = u ∙ f.counted ∙ sym (AllZip-long (IsCopy is_key is_value) (gather leaves (numbers rows)) (gather copies (numbers rows)) (gather-copies (numbers rows)));
     }
       where

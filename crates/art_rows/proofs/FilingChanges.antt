@@ -5,7 +5,6 @@ use Rattle.std.proofs.lemmas.Bool.Decides.{eqb_tells}
 use Rattle.std.proofs.lemmas.List.{length-set}
 use Rattle.art_rows.specs.Numbers.{Numbered, Numbers, leaf_in, Has, with_pair_after, without_number, with_pair, Lacks}
 use Rattle.art_rows.specs.Rows.{among, nth, numbers, position_at, IsSpot, row_end}
-use Rattle.art_rows.specs.Blocks.{row_of}
 use Rattle.art_rows.specs.Leaves.{with_value, index_of, spot_index}
 use Rattle.art_rows.specs.Filing.{filed, Files}
 use Rattle.art_slots.specs.Store.{Store, slot_at, used_count, with_record}
@@ -13,9 +12,9 @@ use Rattle.art_rows.specs.declared.leaves.Leaf.{Leaf}
 use Rattle.art_rows.specs.declared.row.Position.{Position}
 use Rattle.art_slots.proofs.CallerLemmas.{with-now, with-others, with-count}
 use Rattle.art_rows.proofs.NumbersLemmas.{eqb_same, leaf_in-without_number, AreDistinct-without_number, length-without_number, leaf_in-with_pair, leaf_in-with_now, numbers-with_pair, same_distinct, same_length, Lacks-from_leaf_in, AreDistinct-with_pair_after, leaf_in-with_pair_after, length-with_pair_after, Has-tail}
-use Rattle.art_rows.proofs.RowChanges.{PutsIn, puts_in, puts_row, spot-row, TakesOut, takes_one, takes_more, numbers-without, own-in}
+use Rattle.art_rows.proofs.RowChanges.{PutsIn, puts_in, puts_row, spot-row, TakesOut, takes_one, takes_more, numbers-without}
 use Rattle.art_rows.proofs.RowsLemmas.{found, standing, standing-row, nth-place, among-numbers}
-use Rattle.art_rows.proofs.FilingLemmas.{record_is, in_rows, own_row, row_filled}
+use Rattle.art_rows.proofs.FilingLemmas.{record_is, in_rows}
 
 -- the numbers, after a pair was placed
 numbers-placed : {K V : Type 0} (o : Option ℕ) (x : Numbered (K × V)) (ps : List (Numbered (K × V))) → IfSome o (Has ps) → map (λ p. p.0) (with_pair_after o x ps) ≡ take (spot_index o ps) (map (λ p. p.0) ps) ++ x.0 ∷ drop (spot_index o ps) (map (λ p. p.0) ps)
@@ -31,7 +30,7 @@ numbers-placed {K = K} {V = V} (Some i) x (p ∷ ps) h = elim (eqb_tells p.0 i) 
 
 module _ {K V : Type 0} {leaves : ℕ → Option (Leaf K V)} {rows : List (Numbered (List ℕ))} {count : ℕ} {ps : List (Numbered (K × V))} (f : Files leaves rows count ps) where
   -- if a record is removed, and its number is removed from its row, the others are filed
-  pub files_removed : (id : ℕ) → Has ps id → (new : List (Numbered (List ℕ))) → TakesOut rows new (index_of ps id) id → (taken : ℕ → Option (Leaf K V)) → taken id ≡ None → ((j : ℕ) → j ≢ id → taken j ≡ leaves j) → (less : ℕ) → less + 1 ≡ count → Files taken new less (without_number ps id)
+  pub files_removed : (id : ℕ) → Has ps id → (new : List (Numbered (List ℕ))) → TakesOut rows new (index_of ps id) → (taken : ℕ → Option (Leaf K V)) → taken id ≡ None → ((j : ℕ) → j ≢ id → taken j ≡ leaves j) → (less : ℕ) → less + 1 ≡ count → Files taken new less (without_number ps id)
   files_removed id has new out taken gone rest less one = record {
     distinct = AreDistinct-without_number ps id f.distinct;
     each = λ j. elim (eqb_tells id j) [
@@ -41,7 +40,6 @@ module _ {K V : Type 0} {leaves : ℕ → Option (Leaf K V)} {rows : List (Numbe
     joined = numbers-without ps id has ∙ ap (λ ns. take (index_of ps id) ns ++ drop (index_of ps id + 1) ns) f.joined ∙ sym out.joined;
     filled = out.filled;
     apart = out.apart;
-    own = out.own;
     counted = (let n = length-without_number ps id has in let c = f.counted in omega arith);
   }
 
@@ -60,19 +58,17 @@ module _ {K V : Type 0} {leaves : ℕ → Option (Leaf K V)} {rows : List (Numbe
         joined = same ∙ f.joined;
         filled = f.filled;
         apart = f.apart;
-        own = f.own;
         counted = f.counted ∙ sym (same_length (with_pair ps i y) ps same);
       }
 
   -- the number of a leaf is removed from its row
-  pub taken_out : (id : ℕ) → Has ps id → (p : Position) → position_at rows (index_of ps id) ≡ Some p → (new : List (Numbered (List ℕ))) → IfSome (leaf_in rows p.row) (λ ids. length ids ≡ 1 → new ≡ without_number rows p.row) → IfSome (leaf_in rows p.row) (λ ids. length ids ≢ 1 → new ≡ with_pair rows p.row (take p.place ids ++ drop (p.place + 1) ids)) → TakesOut rows new (index_of ps id) id
+  pub taken_out : (id : ℕ) → Has ps id → (p : Position) → position_at rows (index_of ps id) ≡ Some p → (new : List (Numbered (List ℕ))) → IfSome (leaf_in rows p.row) (λ ids. length ids ≡ 1 → new ≡ without_number rows p.row) → IfSome (leaf_in rows p.row) (λ ids. length ids ≢ 1 → new ≡ with_pair rows p.row (take p.place ids ++ drop (p.place + 1) ids)) → TakesOut rows new (index_of ps id)
   taken_out id has p at new one more =
       let s = standing rows (index_of ps id) p at in
       let r : leaf_in rows p.row ≡ Some s.ids = standing-row rows (index_of ps id) p s f.apart in
-      let there : nth (numbers rows) (index_of ps id) ≡ Some id = sym (ap (λ ns. nth ns (index_of ps id)) f.joined) ∙ nth-place (map (λ q. q.0) ps) id (among-numbers ps id has) in
       elim (eqb_tells (length s.ids) 1) [
-        | inl t ↦ takes_one rows (index_of ps id) p s f.apart f.filled f.own id there t.1 new ((rw r at one) t.1)
-        | inr t ↦ takes_more rows (index_of ps id) p s f.apart f.filled f.own id there t.1 new ((rw r at more) t.1)
+        | inl t ↦ takes_one rows (index_of ps id) p s f.apart f.filled t.1 new ((rw r at one) t.1)
+        | inr t ↦ takes_more rows (index_of ps id) p s f.apart f.filled t.1 new ((rw r at more) t.1)
       ]
 
   -- if a pair is added, and its number is added to the rows, the pairs are filed
@@ -88,51 +84,28 @@ module _ {K V : Type 0} {leaves : ℕ → Option (Leaf K V)} {rows : List (Numbe
         joined = numbers-placed o (n, (k, v)) ps has ∙ ap (λ ns. take (spot_index o ps) ns ++ n ∷ drop (spot_index o ps) ns) f.joined ∙ sym out.joined;
         filled = out.filled;
         apart = out.apart;
-        own = out.own;
         counted = (let m = length-with_pair_after o (n, (k, v)) ps has in let c = f.counted in omega arith);
       }
 
-  -- a number that is not in its row has no pair
-  own_fresh : (n : ℕ) → ((ids : List ℕ) → leaf_in rows (row_of n) ≡ Some ids → among ids n ≡ false) → leaf_in ps n ≡ None
-  own_fresh n off = go (leaf_in ps n) refl
+  -- a number that is in no row has no pair
+  pub fresh_pair : (n : ℕ) → among (numbers rows) n ≡ false → leaf_in ps n ≡ None
+  fresh_pair n off = go (leaf_in ps n) refl
     where
       go : (o : Option (K × V)) → leaf_in ps n ≡ o → o ≡ None
       go None e = refl
-      go (Some x) e =
-          let h : Has ps n = rw e refl in
-          let s = found rows n f.apart (in_rows f n h) in
-          let r : leaf_in rows (row_of n) ≡ Some s.ids = ap (leaf_in rows) (sym (own_row f n h)) ∙ s.row in
-          absurd (let a : true ≡ false = sym s.inside ∙ off s.ids r in cc)
-
-  -- a number that has the same row as each number of row r has the row r
-  pub put_own : (r : ℕ) (ids : List ℕ) → leaf_in rows r ≡ Some ids → (n : ℕ) → ((m : ℕ) → among ids m ≡ true → row_of n ≡ row_of m) → row_of n ≡ r
-  put_own r ids at n same = go ids at (row_filled f r ids at) same
-    where
-      go : (ids : List ℕ) → leaf_in rows r ≡ Some ids → 0 < length ids → ((m : ℕ) → among ids m ≡ true → row_of n ≡ row_of m) → row_of n ≡ r
-      go [] at z same = absurd (omega arith)
-      go (m ∷ ids) at z same = (let h : among (m ∷ ids) m ≡ true = rw (eqb_same m) refl in same m h ∙ own-in rows f.own r (m ∷ ids) at m h)
-
-  -- a number of a row that does not have it has no pair
-  pub put_fresh : (r : ℕ) (ids : List ℕ) → leaf_in rows r ≡ Some ids → (n : ℕ) → row_of n ≡ r → among ids n ≡ false → leaf_in ps n ≡ None
-  put_fresh r ids at n own off = own_fresh n (λ is e. (let a : Some is ≡ Some ids = sym e ∙ ap (leaf_in rows) own ∙ at in let b : is ≡ ids = cc in rw b off))
-
-  -- a number of a row that does not exist has no pair
-  pub begun_fresh : (r : ℕ) → leaf_in rows r ≡ None → (n : ℕ) → row_of n ≡ r → leaf_in ps n ≡ None
-  begun_fresh r none n own = own_fresh n (λ ids e. absurd (let a : Some ids ≡ None = sym e ∙ ap (leaf_in rows) own ∙ none in cc))
+      go (Some x) e = absurd (let a : true ≡ false = sym (in_rows f n (rw e refl)) ∙ off in cc)
 
   module _ (o : Option ℕ) (has : IfSome o (Has ps)) (n : ℕ) (none : leaf_in ps n ≡ None) (k : K) (v : V) where
     -- if a pair is added, with its number in an existing row, the pairs are filed
-    pub files_put : (p : Position) → IsSpot rows p (spot_index o ps) → (ids : List ℕ) → leaf_in rows p.row ≡ Some ids → (now : List ℕ) → now ≡ take p.place ids ++ n ∷ drop p.place ids → row_of n ≡ p.row → (made : ℕ → Option (Leaf K V)) → made n ≡ Some (record { key = k; value = v }) → ((j : ℕ) → j ≢ n → made j ≡ leaves j) → (more : ℕ) → more ≡ count + 1 → Files made (with_pair rows p.row now) more (with_pair_after o (n, (k, v)) ps)
-    files_put p s ids at now is own made there rest more one =
-        let a : Some ids ≡ Some s.ids = sym at ∙ spot-row rows (spot_index o ps) p s f.apart in
-        let b : ids ≡ s.ids = cc in
-        let e : with_pair rows p.row now ≡ with_pair rows p.row (take p.place s.ids ++ n ∷ drop p.place s.ids) = ap (with_pair rows p.row) (is ∙ ap (λ l. take p.place l ++ n ∷ drop p.place l) b) in
-        files_inserted o n k v has none (with_pair rows p.row now) (puts_in rows (spot_index o ps) p s f.apart f.filled f.own n own (with_pair rows p.row now) e) made there rest more one
+    pub files_put : (p : Position) → IsSpot rows p (spot_index o ps) → (new : List (Numbered (List ℕ))) → IfSome (leaf_in rows p.row) (λ ids. new ≡ with_pair rows p.row (take p.place ids ++ n ∷ drop p.place ids)) → (made : ℕ → Option (Leaf K V)) → made n ≡ Some (record { key = k; value = v }) → ((j : ℕ) → j ≢ n → made j ≡ leaves j) → (more : ℕ) → more ≡ count + 1 → Files made new more (with_pair_after o (n, (k, v)) ps)
+    files_put p s new put made there rest more one =
+        let e : new ≡ with_pair rows p.row (take p.place s.ids ++ n ∷ drop p.place s.ids) = rw (spot-row rows (spot_index o ps) p s f.apart) at put in
+        files_inserted o n k v has none new (puts_in rows (spot_index o ps) p s f.apart f.filled n new e) made there rest more one
 
     -- if a pair is added, with its number in a new row, the pairs are filed
-    pub files_begun : (b : Option ℕ) → IfSome b (Has rows) → spot_index o ps ≡ row_end b rows → (r : ℕ) → row_of n ≡ r → leaf_in rows r ≡ None → (new : List (Numbered (List ℕ))) → new ≡ with_pair_after b (r, n ∷ []) rows → (made : ℕ → Option (Leaf K V)) → made n ≡ Some (record { key = k; value = v }) → ((j : ℕ) → j ≢ n → made j ≡ leaves j) → (more : ℕ) → more ≡ count + 1 → Files made new more (with_pair_after o (n, (k, v)) ps)
-    files_begun b h index r own fresh new e made there rest more one =
-        files_inserted o n k v has none new (subst (λ j. PutsIn rows new j n) (sym index) (puts_row r n b rows new f.apart f.filled f.own own h fresh e)) made there rest more one
+    pub files_begun : (b : Option ℕ) → IfSome b (Has rows) → spot_index o ps ≡ row_end b rows → (r : ℕ) → leaf_in rows r ≡ None → (new : List (Numbered (List ℕ))) → new ≡ with_pair_after b (r, n ∷ []) rows → (made : ℕ → Option (Leaf K V)) → made n ≡ Some (record { key = k; value = v }) → ((j : ℕ) → j ≢ n → made j ≡ leaves j) → (more : ℕ) → more ≡ count + 1 → Files made new more (with_pair_after o (n, (k, v)) ps)
+    files_begun b h index r fresh new e made there rest more one =
+        files_inserted o n k v has none new (subst (λ j. PutsIn rows new j n) (sym index) (puts_row r n b rows new f.apart f.filled h fresh e)) made there rest more one
 
 -- if a record of a store gets another pair, the pairs are filed
 pub files_changed_at : {K V : Type 0} {rows : List (Numbered (List ℕ))} {ps : List (Numbered (K × V))} (s : Store (Leaf K V)) → Files (slot_at s) rows (used_count s) ps → (id n : ℕ) → n ≡ id → (r : Leaf K V) → slot_at s n ≡ Some r → (k : K) (v : V) (x : Leaf K V) → x ≡ record { key = k; value = v } → Files (slot_at (with_record s n x)) rows (used_count (with_record s n x)) (with_pair ps id (k, v))
@@ -145,10 +118,6 @@ files_changed_at {K = K} {V = V} s f id n is r was k v x e =
 -- if a record changes, there are still enough cells for the rows
 pub cells_changed : {K V : Type 0} (s : Store (Leaf K V)) (rows : Numbers (List ℕ)) (n : ℕ) (x : Leaf K V) → 64 * rows.top ≤ length s.slots → 64 * rows.top ≤ length (with_record s n x).slots
 cells_changed s rows n x h = (let e = length-set s.slots n (Some x) in omega arith)
-
--- if a record changes, each cell still has an id
-pub ids_changed : {K V : Type 0} (s : Store (Leaf K V)) (ids : List ℕ) (n : ℕ) (x : Leaf K V) → length s.slots ≤ length ids → length (with_record s n x).slots ≤ length ids
-ids_changed s ids n x h = (let e = length-set s.slots n (Some x) in omega arith)
 
 -- to set the value under a number is to set the pair with the same key
 pub with_value-pair : {K V : Type 0} (ps : List (Numbered (K × V))) (i : ℕ) (k : K) (w v : V) → leaf_in ps i ≡ Some (k, w) → with_value ps i v ≡ with_pair ps i (k, v)

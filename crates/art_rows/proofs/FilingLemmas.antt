@@ -6,14 +6,12 @@ use Rattle.std.proofs.lemmas.Bool.Decides.{leb_tells}
 use Rattle.art_rows.specs.Numbers.{Numbered, leaf_in, Has, last_number, number_after, number_before, Lacks, AreDistinct}
 use Rattle.art_rows.specs.Rows.{among, place_in, nth, numbers, row_with, position_at, start_of}
 use Rattle.art_rows.specs.Leaves.{Leaves, index_of}
-use Rattle.art_rows.specs.Blocks.{row_of}
 use Rattle.art_rows.specs.Filing.{gather, Files, pairs_in, AllFiled, AllPlaced, content}
 use Rattle.art_slots.specs.Store.{Store, slot_at, used_count}
 use Rattle.art_rows.specs.declared.leaves.Leaf.{Leaf}
 use Rattle.art_rows.specs.declared.leaves.Leaves.TheInside.{Inside}
 use Rattle.art_rows.specs.declared.row.Position.{Position}
 use Rattle.art_rows.proofs.NumbersLemmas.{eqb_same, eqb_other, has_other, split, leaf_in-split, no_last}
-use Rattle.art_rows.proofs.RowChanges.{own-in}
 use Rattle.art_rows.proofs.RowsLemmas.{among-numbers, number_after-nth, number_before-first, number_before-nth, before_cases, nth-within, place_in-within, place_in-nth, position-split, position-here, found, standing, standing-row, standing-number, standing-within, standing-after, standing-earlier, standing-first, standing-not_first, standing-row_end, end_of, position-none, position-last, filled-row}
 
 -- if P implies Q, then `IfSome o P` implies `IfSome o Q`
@@ -95,12 +93,12 @@ module _ {K V : Type 0} {leaves : ℕ → Option (Leaf K V)} {rows : List (Numbe
 
 module _ {K V : Type 0} where
   -- the pairs that a contract sees are filed
-  pub seen : {c : Leaves K V} (i : Inside K V) → content i.records i.rows i.ids ≡ c → AllPlaced i.records i.rows i.ids →
+  pub seen : {c : Leaves K V} (i : Inside K V) → content i.records i.rows ≡ c → AllPlaced i.records i.rows →
       Files (slot_at i.records) i.rows.pairs (used_count i.records) c.pairs
   seen i e f = subst (λ (d : Leaves K V). Files (slot_at i.records) i.rows.pairs (used_count i.records) d.pairs) e f.0
 
   -- the pairs that a contract sees are filed in the rows that it sees
-  pub seen_rows : {c : Leaves K V} (i : Inside K V) → content i.records i.rows i.ids ≡ c → AllPlaced i.records i.rows i.ids →
+  pub seen_rows : {c : Leaves K V} (i : Inside K V) → content i.records i.rows ≡ c → AllPlaced i.records i.rows →
       Files (slot_at i.records) c.rows (used_count i.records) c.pairs
   seen_rows i e f = subst (λ (d : Leaves K V). Files (slot_at i.records) d.rows (used_count i.records) d.pairs) e f.0
 
@@ -114,40 +112,25 @@ module _ {K V : Type 0} (s : Store (Leaf K V)) {rows : List (Numbered (List ℕ)
   all_filed = subst (λ qs. Files (slot_at s) rows (used_count s) qs) (sym pairs_are) f
 
 module _ {K V : Type 0} {leaves : ℕ → Option (Leaf K V)} {rows : List (Numbered (List ℕ))} {count : ℕ} {ps : List (Numbered (K × V))} (f : Files leaves rows count ps) where
-  -- the row that has a number is the row of the number
-  pub own_row : (i : ℕ) → Has ps i → row_with rows i ≡ row_of i
-  own_row i h = (let s = found rows i f.apart (in_rows f i h) in sym (own-in rows f.own (row_with rows i) s.ids s.row i s.inside))
-
-  pub row_has : (i : ℕ) → Has ps i → Has rows (row_of i)
-  row_has i h = (let s = found rows i f.apart (in_rows f i h) in subst (λ r. Has rows r) (own_row i h) (rw s.row refl))
+  -- the row that has a number exists
+  pub row_has : (i : ℕ) → Has ps i → Has rows (row_with rows i)
+  row_has i h = rw (found rows i f.apart (in_rows f i h)).row refl
 
   -- the position of a number is its row, and its place in that row
-  pub located : (i : ℕ) → Has ps i → (ids : List ℕ) → leaf_in rows (row_of i) ≡ Some ids → position_at rows (index_of ps i) ≡ Some (record { row = row_of i; place = place_in ids i })
+  pub located : (i : ℕ) → Has ps i → (ids : List ℕ) → leaf_in rows (row_with rows i) ≡ Some ids → position_at rows (index_of ps i) ≡ Some (record { row = row_with rows i; place = place_in ids i })
   located i h ids g =
       let s = found rows i f.apart (in_rows f i h) in
-      let a : Some ids ≡ Some s.ids = sym g ∙ ap (leaf_in rows) (sym (own_row i h)) ∙ s.row in
+      let a : Some ids ≡ Some s.ids = sym g ∙ s.row in
       let b : ids ≡ s.ids = cc in
-      rw (b, f.joined, ← own_row i h) s.position
+      rw (b, f.joined) s.position
 
   -- a number is in its row
-  pub in_own_row : (i : ℕ) → Has ps i → (ids : List ℕ) → leaf_in rows (row_of i) ≡ Some ids → among ids i ≡ true
+  pub in_own_row : (i : ℕ) → Has ps i → (ids : List ℕ) → leaf_in rows (row_with rows i) ≡ Some ids → among ids i ≡ true
   in_own_row i h ids g =
       let s = found rows i f.apart (in_rows f i h) in
-      let a : Some ids ≡ Some s.ids = sym g ∙ ap (leaf_in rows) (sym (own_row i h)) ∙ s.row in
+      let a : Some ids ≡ Some s.ids = sym g ∙ s.row in
       let b : ids ≡ s.ids = cc in
       rw b s.inside
-
-  -- a position that is found is the row of the number, and its place in that row
-  pub located_at : (i : ℕ) → Has ps i → (p : Position) → position_at rows (index_of ps i) ≡ Some p → (p.row ≡ row_of i) × IfSome (leaf_in rows (row_of i)) (λ ids. p.place ≡ place_in ids i)
-  located_at i h p at = go (leaf_in rows (row_of i)) refl
-    where
-      go : (o : Option (List ℕ)) → leaf_in rows (row_of i) ≡ o → (p.row ≡ row_of i) × IfSome o (λ ids. p.place ≡ place_in ids i)
-      go None e = absurd (let a : Has rows (row_of i) = row_has i h in let b : false ≡ true = rw e at a in cc)
-      go (Some ids) e =
-          let q : Position = record { row = row_of i; place = place_in ids i } in
-          let a : Some p ≡ Some q = sym at ∙ located i h ids e in
-          let b : p ≡ q = cc in
-          (ap (λ (x : Position). x.row) b, ap (λ (x : Position). x.place) b)
 
   module _ (k : ℕ) (p : Position) (at : position_at rows k ≡ Some p) where
     -- the row of a position exists

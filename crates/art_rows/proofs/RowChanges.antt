@@ -6,38 +6,9 @@ use Rattle.std.proofs.lemmas.List.{length-append, take-append-le, drop-append-le
 use Rattle.std.proofs.Math.Seq.{take-append-add, drop-append-add}
 use Rattle.art_rows.specs.Numbers.{Numbered, leaf_in, Has, with_pair_after, without_number, with_pair, Lacks, AreDistinct}
 use Rattle.art_rows.specs.Rows.{among, place_in, nth, numbers, position_at, AreFilled, IsSpot, row_end}
-use Rattle.art_rows.specs.Blocks.{row_of, AreOwn}
 use Rattle.art_rows.specs.declared.row.Position.{Position}
 use Rattle.art_rows.proofs.NumbersLemmas.{Has-tail, with_pair-split, without_number-split, same_distinct, numbers-with_pair, AreDistinct-without_number, distinct_parts, leaf_in-split, AreDistinct-with_pair_after, Lacks-from_leaf_in}
 use Rattle.art_rows.proofs.RowsLemmas.{numbers-append, AreFilled-parts, AreFilled-append, Standing, standing, position-first, standing-numbers, standing-lacks}
-
--- ---- rows with numbers of their own
-
-pub AreOwn-append : (xs ys : List (Numbered (List ℕ))) → AreOwn xs → AreOwn ys → AreOwn (xs ++ ys)
-AreOwn-append [] ys o q = q
-AreOwn-append (x ∷ xs) ys o q = (o.0, AreOwn-append xs ys o.1 q)
-
-pub AreOwn-parts : (xs ys : List (Numbered (List ℕ))) → AreOwn (xs ++ ys) → AreOwn xs × AreOwn ys
-AreOwn-parts [] ys o = (tt, o)
-AreOwn-parts (x ∷ xs) ys o = let r = AreOwn-parts xs ys o.1 in ((o.0, r.0), r.1)
-
--- the row of a number in a row is that row
-pub own-in : (rows : List (Numbered (List ℕ))) → AreOwn rows → (r : ℕ) (ids : List ℕ) → leaf_in rows r ≡ Some ids → (n : ℕ) → among ids n ≡ true → row_of n ≡ r
-own-in [] o r ids e n h = absurd cc
-own-in (q ∷ qs) o r ids e n h = elim (eqb_tells q.0 r) [
-  | inl t ↦ (let f : Some q.1 ≡ Some ids = rw t.0 at e in let g : q.1 ≡ ids = cc in o.0 n (rw g h) ∙ t.1)
-  | inr t ↦ own-in qs o.1 r ids (rw t.0 at e) n h
-]
-
--- a number that is left in a list was in the list
-pub among-left : (ns : List ℕ) (k i : ℕ) → among (take k ns ++ drop (k + 1) ns) i ≡ true → among ns i ≡ true
-among-left [] zero i h = h
-among-left [] (suc k) i h = (let a : suc k + 1 ≡ suc (k + 1) = omega arith in rw a at h)
-among-left (m ∷ ns) zero i h = elim (eqb_tells m i) [ inl t ↦ rw t.0 refl | inr t ↦ rw t.0 h ]
-among-left (m ∷ ns) (suc k) i h =
-    let a : suc k + 1 ≡ suc (k + 1) = omega arith in
-    let g : cond (eqb m i) true (among (take k ns ++ drop (k + 1) ns) i) ≡ true = rw a at h in
-    elim (eqb_tells m i) [ inl t ↦ rw t.0 refl | inr t ↦ rw t.0 (among-left ns k i (rw t.0 at g)) ]
 
 -- three lists, cut after the first j items of the second
 module _ {X : Type 0} (xs ys zs : List X) (j : ℕ) (le : j ≤ length ys) where
@@ -46,19 +17,6 @@ module _ {X : Type 0} (xs ys zs : List X) (j : ℕ) (le : j ≤ length ys) where
 
   pub drop-middle : drop (length xs + j) (xs ++ (ys ++ zs)) ≡ drop j ys ++ zs
   drop-middle = drop-append-add xs (ys ++ zs) j ∙ drop-append-le j ys zs le
-
--- after n was inserted, a number is in the list if it is n or was in the list
-pub among-put : (ns : List ℕ) (k n i : ℕ) → among (take k ns ++ n ∷ drop k ns) i ≡ cond (eqb n i) true (among ns i)
-among-put ns zero n i = refl
-among-put [] (suc k) n i = refl
-among-put (m ∷ ns) (suc k) n i = elim (eqb_tells m i) [
-  | inl t ↦ rw t.0 (always (eqb n i))
-  | inr t ↦ rw t.0 (among-put ns k n i)
-]
-  where
-    always : (b : Bool) → true ≡ cond b true true
-    always true = refl
-    always false = refl
 
 module _ {X : Type 0} where
   -- the numbers, without the number at its place
@@ -75,16 +33,12 @@ module _ {X : Type 0} where
       step m ns k = (let e : suc k + 1 ≡ suc (k + 1) = omega arith in rw e refl)
 
 -- the rows without one number
-pub record TakesOut (rows new : List (Numbered (List ℕ))) (k n : ℕ) : Type 0 where
+pub record TakesOut (rows new : List (Numbered (List ℕ))) (k : ℕ) : Type 0 where
   pub joined : numbers new ≡ take k (numbers rows) ++ drop (k + 1) (numbers rows)
   pub filled : AreFilled new
   pub apart : AreDistinct new
-  pub own : AreOwn new
 
-module _ (rows : List (Numbered (List ℕ))) (k : ℕ) (p : Position) (s : Standing rows k p) (d : AreDistinct rows) (f : AreFilled rows) (o : AreOwn rows) (n : ℕ) (there : nth (numbers rows) k ≡ Some n) where
-  owners : AreOwn s.before × AreOwn ((p.row, s.ids) ∷ s.after)
-  owners = AreOwn-parts s.before ((p.row, s.ids) ∷ s.after) (subst AreOwn s.is o)
-
+module _ (rows : List (Numbered (List ℕ))) (k : ℕ) (p : Position) (s : Standing rows k p) (d : AreDistinct rows) (f : AreFilled rows) where
   parts : AreFilled s.before × AreFilled ((p.row, s.ids) ∷ s.after)
   parts = AreFilled-parts s.before ((p.row, s.ids) ∷ s.after) (subst AreFilled s.is f)
 
@@ -96,7 +50,7 @@ module _ (rows : List (Numbered (List ℕ))) (k : ℕ) (p : Position) (s : Stand
       rw (standing-numbers rows k p s, s.index, e, take-middle (numbers s.before) s.ids (numbers s.after) p.place (omega arith), drop-middle (numbers s.before) s.ids (numbers s.after) (p.place + 1) (omega arith)) (simp append_assoc)
 
   -- the rows without one number, if other numbers are left in its row
-  pub takes_more : length s.ids ≢ 1 → (new : List (Numbered (List ℕ))) → new ≡ with_pair rows p.row (take p.place s.ids ++ drop (p.place + 1) s.ids) → TakesOut rows new k n
+  pub takes_more : length s.ids ≢ 1 → (new : List (Numbered (List ℕ))) → new ≡ with_pair rows p.row (take p.place s.ids ++ drop (p.place + 1) s.ids) → TakesOut rows new k
   takes_more ne new e =
       let out : List ℕ = take p.place s.ids ++ drop (p.place + 1) s.ids in
       let w = s.within in
@@ -109,7 +63,6 @@ module _ (rows : List (Numbered (List ℕ))) (k : ℕ) (p : Position) (s : Stand
         joined = numbers-append s.before ((p.row, out) ∷ s.after) ∙ sym less;
         filled = AreFilled-append s.before ((p.row, out) ∷ s.after) parts.0 (z, parts.1.1);
         apart = rw (← is, e) (same_distinct rows (with_pair rows p.row out) (sym (numbers-with_pair rows p.row out)) d);
-        own = AreOwn-append s.before ((p.row, out) ∷ s.after) owners.0 ((λ i h. owners.1.0 i (among-left s.ids p.place i h)), owners.1.1);
       })
     where
       two : (l j o : ℕ) → l ≢ 1 → j < l → o ≡ j + (l - (j + 1)) → 0 < o
@@ -118,7 +71,7 @@ module _ (rows : List (Numbered (List ℕ))) (k : ℕ) (p : Position) (s : Stand
       two (suc (suc l)) j o ne lt e = omega arith
 
   -- the rows without one number, if it was the only number in its row
-  pub takes_one : length s.ids ≡ 1 → (new : List (Numbered (List ℕ))) → new ≡ without_number rows p.row → TakesOut rows new k n
+  pub takes_one : length s.ids ≡ 1 → (new : List (Numbered (List ℕ))) → new ≡ without_number rows p.row → TakesOut rows new k
   takes_one one new e =
       let out : List ℕ = take p.place s.ids ++ drop (p.place + 1) s.ids in
       let w = s.within in
@@ -131,7 +84,6 @@ module _ (rows : List (Numbered (List ℕ))) (k : ℕ) (p : Position) (s : Stand
         joined = numbers-append s.before s.after ∙ ap (λ l. numbers s.before ++ (l ++ numbers s.after)) (sym z) ∙ sym less;
         filled = AreFilled-append s.before s.after parts.0 parts.1.1;
         apart = rw (← is, e) (AreDistinct-without_number rows p.row d);
-        own = AreOwn-append s.before s.after owners.0 owners.1.1;
       })
 
 -- ---- one more number
@@ -141,7 +93,6 @@ pub record PutsIn (rows new : List (Numbered (List ℕ))) (k n : ℕ) : Type 0 w
   pub joined : numbers new ≡ take k (numbers rows) ++ n ∷ drop k (numbers rows)
   pub filled : AreFilled new
   pub apart : AreDistinct new
-  pub own : AreOwn new
 
 module _ (rows : List (Numbered (List ℕ))) (k : ℕ) (p : Position) (s : IsSpot rows p k) (d : AreDistinct rows) where
   pub spot-lacks : Lacks s.before p.row × Lacks s.after p.row
@@ -153,13 +104,7 @@ module _ (rows : List (Numbered (List ℕ))) (k : ℕ) (p : Position) (s : IsSpo
   pub spot-numbers : numbers rows ≡ numbers s.before ++ (s.ids ++ numbers s.after)
   spot-numbers = ap numbers s.is ∙ numbers-append s.before ((p.row, s.ids) ∷ s.after)
 
-  module _ (f : AreFilled rows) (o : AreOwn rows) (n : ℕ) (own : row_of n ≡ p.row) where
-    put_own : (i : ℕ) → among (take p.place s.ids ++ n ∷ drop p.place s.ids) i ≡ true → row_of i ≡ p.row
-    put_own i h = elim (eqb_tells n i) [
-      | inl t ↦ sym (ap row_of t.1) ∙ own
-      | inr t ↦ (let q = AreOwn-parts s.before ((p.row, s.ids) ∷ s.after) (subst AreOwn s.is o) in q.1.0 i (rw t.0 at (sym (among-put s.ids p.place n i) ∙ h)))
-    ]
-
+  module _ (f : AreFilled rows) (n : ℕ) where
     -- the rows with the number in the row
     pub puts_in : (new : List (Numbered (List ℕ))) → new ≡ with_pair rows p.row (take p.place s.ids ++ n ∷ drop p.place s.ids) → PutsIn rows new k n
     puts_in new e =
@@ -168,13 +113,11 @@ module _ (rows : List (Numbered (List ℕ))) (k : ℕ) (p : Position) (s : IsSpo
         let is : new ≡ s.before ++ (p.row, more) ∷ s.after = e ∙ ap (λ rs. with_pair rs p.row more) s.is ∙ with_pair-split p.row s.ids s.after more s.before spot-lacks.0 in
         let g = AreFilled-parts s.before ((p.row, s.ids) ∷ s.after) (subst AreFilled s.is f) in
         let z : length more ≡ length (take p.place s.ids) + suc (length (drop p.place s.ids)) = length-append (take p.place s.ids) (n ∷ drop p.place s.ids) in
-        let a = AreOwn-parts s.before ((p.row, s.ids) ∷ s.after) (subst AreOwn s.is o) in
         rw is (record {
           joined =
               numbers-append s.before ((p.row, more) ∷ s.after) ∙ sym (rw (spot-numbers, s.index, take-middle (numbers s.before) s.ids (numbers s.after) p.place w, drop-middle (numbers s.before) s.ids (numbers s.after) p.place w) (simp append_assoc));
           filled = AreFilled-append s.before ((p.row, more) ∷ s.after) g.0 (omega arith, g.1.1);
           apart = rw (← is, e) (same_distinct rows (with_pair rows p.row more) (sym (numbers-with_pair rows p.row more)) d);
-          own = AreOwn-append s.before ((p.row, more) ∷ s.after) a.0 (put_own, a.1.1);
         })
 
 module _ (r n : ℕ) where
@@ -198,25 +141,13 @@ module _ (r n : ℕ) where
     | inr t ↦ rw t.0 (f.0, filled-placed_row (Some i) qs f.1)
   ]
 
-  own-placed_row : (b : Option ℕ) (rows : List (Numbered (List ℕ))) → row_of n ≡ r → AreOwn rows → AreOwn (with_pair_after b (r, n ∷ []) rows)
-  own-placed_row None rows e o = (only, o)
-    where
-      only : (i : ℕ) → among (n ∷ []) i ≡ true → row_of i ≡ r
-      only i h = elim (eqb_tells n i) [ inl t ↦ sym (ap row_of t.1) ∙ e | inr t ↦ (let f : false ≡ true = rw t.0 at h in absurd cc) ]
-  own-placed_row (Some i) [] e o = tt
-  own-placed_row (Some i) (q ∷ qs) e o = elim (eqb_tells q.0 i) [
-    | inl t ↦ rw t.0 (o.0, own-placed_row None qs e o.1)
-    | inr t ↦ rw t.0 (o.0, own-placed_row (Some i) qs e o.1)
-  ]
-
   -- the rows with the number in a new row
-  pub puts_row : (b : Option ℕ) (rows new : List (Numbered (List ℕ))) → AreDistinct rows → AreFilled rows → AreOwn rows → row_of n ≡ r → IfSome b (Has rows) → leaf_in rows r ≡ None → new ≡ with_pair_after b (r, n ∷ []) rows → PutsIn rows new (row_end b rows) n
-  puts_row b rows new d f o own h fresh e =
+  pub puts_row : (b : Option ℕ) (rows new : List (Numbered (List ℕ))) → AreDistinct rows → AreFilled rows → IfSome b (Has rows) → leaf_in rows r ≡ None → new ≡ with_pair_after b (r, n ∷ []) rows → PutsIn rows new (row_end b rows) n
+  puts_row b rows new d f h fresh e =
       rw e (record {
         joined = numbers-placed_row b rows h;
         filled = filled-placed_row b rows f;
         apart = AreDistinct-with_pair_after b (r, n ∷ []) rows d (Lacks-from_leaf_in rows r fresh);
-        own = own-placed_row b rows own o;
       })
 
 -- ---- spots

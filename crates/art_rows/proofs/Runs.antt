@@ -1,9 +1,9 @@
 -- What holds of the runs of numbers after a number and before it.
 use Rattle.std.proofs.Common.{◌≡◌, ℕ, zero, suc, ◌+◌, ◌-◌, ◌<◌, ◌≤◌, List, [], ◌∷◌, ◌++◌, length, map, take, drop, refl, sym, ap, subst, ◌∙◌, Option, Some, None, arith}
 use Rattle.std.proofs.lemmas.List.{length-take-le, length-drop, length_push}
-use Rattle.std.specs.Prelude.{option_map}
+use Rattle.std.specs.Prelude.{option_map, IfSome}
 use Rattle.art_rows.specs.Numbers.{Numbered, leaf_in, Has, number_after, number_before, AreDistinct}
-use Rattle.art_rows.specs.Rows.{place_in, nth, numbers, position_at, RunsAfter, RunsBefore, StandsAfter, start_of}
+use Rattle.art_rows.specs.Rows.{place_in, nth, numbers, position_at, RunsAfter, RunsBefore, StandsAfter, start_of, nothing_follows}
 use Rattle.art_rows.specs.Filing.{Files}
 use Rattle.art_rows.specs.declared.following.Following.{Following}
 use Rattle.art_rows.specs.declared.leaves.Leaf.{Leaf}
@@ -23,6 +23,11 @@ nth-take ns zero j n e = absurd cc
 nth-take [] (suc k) j n e = absurd cc
 nth-take (m ∷ ns) (suc k) zero n e = e
 nth-take (m ∷ ns) (suc k) (suc j) n e = nth-take ns k j n e
+
+-- a position that is the start of a row, if there is one
+told : (o : Option ℕ) (q : Option Position) → q ≡ option_map start_of o → IfSome o (λ r. q ≡ Some (start_of r))
+told None q e = tt
+told (Some r) q e = e
 
 module _ {X : Type 0} (ps : List (Numbered X)) (distinct : AreDistinct ps) (i n : ℕ) (has : Has ps i) (rest : List ℕ) where
   -- the first of a run is the next number, and the others are a run after that
@@ -51,7 +56,7 @@ module _ {X : Type 0} (ps : List (Numbered X)) (distinct : AreDistinct ps) (i n 
         r.0,
         record {
           run = subst (RunsAfter ps n) (sym is) r.1;
-          row = ap (option_map start_of) same ∙ s.row ∙ sym (ap (position_at rows) e);
+          row = subst (λ (o : Option ℕ). IfSome o (λ r. position_at rows (place_in (map (λ p. p.0) ps) n + 1 + length b.run) ≡ Some (start_of r))) (sym same) (subst (λ k. IfSome a.row (λ r. position_at rows k ≡ Some (start_of r))) (sym e) s.row);
         },
       )
 
@@ -110,7 +115,10 @@ module _ {K V : Type 0} {leaves : ℕ → Option (Leaf K V)} {rows : List (Numbe
 
   -- what was looked up in the row and after it follows the number
   pub following_there : (b : Following) → b.run ≡ drop (p.place + 1) ids → b.row ≡ number_after rows p.row → StandsAfter ps rows n b
-  following_there b run row = record { run = subst (RunsAfter ps n) (sym run) after_in_row; row = ap (option_map start_of) row ∙ sym row_after_run ∙ ap (λ l. position_at rows (place_in (map (λ q. q.0) ps) n + 1 + length l)) (sym run) }
+  following_there b run row = record {
+    run = subst (RunsAfter ps n) (sym run) after_in_row;
+    row = told b.row _ (ap (λ l. position_at rows (place_in (map (λ q. q.0) ps) n + 1 + length l)) run ∙ row_after_run ∙ ap (option_map start_of) (sym row));
+  }
 
   -- the number at the position is the next number
   pub next_there : (i : ℕ) → Has ps i → k ≡ place_in (map (λ q. q.0) ps) i + 1 → number_after ps i ≡ Some n
@@ -127,13 +135,15 @@ module _ {K V : Type 0} {leaves : ℕ → Option (Leaf K V)} {rows : List (Numbe
         λ j m e. nth_of_row j m (place_in (map (λ q. q.0) ps) n + j - length (take p.place ids)) (omega arith) (nth-take ids p.place j m e),
       )
 
-module _ {K V : Type 0} {leaves : ℕ → Option (Leaf K V)} {rows : List (Numbered (List ℕ))} {count : ℕ} {ps : List (Numbered (K × V))} (f : Files leaves rows count ps) where
-  -- at the end of a run the next number starts the next row, and the others of that row follow it
-  pub following_row : (i n : ℕ) → Has ps i → (a b : Following) → length a.run ≡ 0 → StandsAfter ps rows i a → (r : ℕ) → a.row ≡ Some r → (ids : List ℕ) → leaf_in rows r ≡ Some ids → ids ≡ n ∷ b.run → b.row ≡ number_after rows r → (number_after ps i ≡ Some n) × StandsAfter ps rows n b
-  following_row i n has a b l s r row ids is cut after =
-      let k : ℕ = place_in (map (λ q. q.0) ps) i + 1 + length a.run in
-      let at : position_at rows k ≡ Some (start_of r) = sym s.row ∙ ap (option_map start_of) row in
-      let there : nth ids 0 ≡ Some n = ap (λ ns. nth ns 0) cut in (
-        next_there f k (start_of r) at ids is n there i has (omega arith),
-        following_there f k (start_of r) at ids is n there b (sym (ap (drop 1) cut)) after,
-      )
+-- nothing is said of what follows a number if nothing was looked up
+pub unknown_follows : {X : Type 0} (ps : List (Numbered X)) (rows : List (Numbered (List ℕ))) (i : ℕ) → StandsAfter ps rows i nothing_follows
+unknown_follows ps rows i = record { run = λ j n e. absurd cc; row = tt }
+
+-- no numbers come directly before each number
+pub none_before_run : {X : Type 0} (ps : List (Numbered X)) (i : ℕ) → RunsBefore ps i []
+none_before_run ps i = (omega arith, λ j n e. absurd cc)
+
+-- the same after a look-up, with the parts of what was looked up
+pub unknown_after : {X : Type 0} (ps : List (Numbered X)) (rows : List (Numbered (List ℕ))) (o : Option ℕ) (b : Following) → b.run ≡ [] → b.row ≡ None → IfSome o (λ n. StandsAfter ps rows n b)
+unknown_after ps rows None b run row = tt
+unknown_after ps rows (Some n) b run row = record { run = subst (RunsAfter ps n) (sym run) (λ j m e. absurd cc); row = subst (λ (q : Option ℕ). IfSome q (λ r. position_at rows (place_in (map (λ p. p.0) ps) n + 1 + length b.run) ≡ Some (start_of r))) (sym row) tt }

@@ -3,7 +3,6 @@ use Rattle.std.specs.Prelude.{◌≡◌, ℕ, ◌*◌, ◌≤◌, List, [], ◌�
 use Rattle.art_slots.specs.Store.{Store, slot_at as at, used_count}
 use Rattle.art_rows.specs.Numbers.{Numbered, Numbers, leaf_in, AreDistinct}
 use Rattle.art_rows.specs.Rows.{numbers, AreFilled}
-use Rattle.art_rows.specs.Blocks.{AreOwn}
 use Rattle.art_rows.specs.declared.row.TheConstants.{ROW}
 use Rattle.art_rows.specs.Leaves.{Leaves}
 use Rattle.art_rows.specs.declared.leaves.Leaf.{Leaf}
@@ -23,14 +22,13 @@ module _ {K V : Type 0} where
   abbrev pub filed : List (Numbered (K × V)) → ℕ → Option (Leaf K V)
   filed ps i = option_map (λ (x : K × V). record { key = x.0; value = x.1 }) (leaf_in ps i)
 
-  -- the records are those of the pairs, and the rows have the pairs' numbers, each in its own row
+  -- the records are those of the pairs, and the rows have the pairs' numbers
   pub record Files (leaves : ℕ → Option (Leaf K V)) (rows : List (Numbered (List ℕ))) (count : ℕ) (pairs : List (Numbered (K × V))) : Type 0 where
     pub distinct : AreDistinct pairs
     pub each : (i : ℕ) → leaves i ≡ filed pairs i
     pub joined : map (λ p. p.0) pairs ≡ numbers rows
     pub filled : AreFilled rows
     pub apart : AreDistinct rows
-    pub own : AreOwn rows
     pub counted : count ≡ length pairs
 
   -- the pairs of a store of leaves, in the order of the rows
@@ -42,9 +40,9 @@ module _ {K V : Type 0} where
   AllFiled leaves rows = Files (at leaves) rows (used_count leaves) (pairs_in leaves rows)
 
   -- what a contract sees of leaves in rows
-  abbrev pub content : Store (Leaf K V) → Numbers (List ℕ) → List ℕ → Leaves K V
-  content leaves rows ids = record { pairs = pairs_in leaves rows.pairs; rows = rows.pairs; spare_rows = rows.spare; cells = length leaves.slots; ids = ids }
+  abbrev pub content : Store (Leaf K V) → Numbers (List ℕ) → Leaves K V
+  content leaves rows = record { pairs = pairs_in leaves rows.pairs; rows = rows.pairs; spare_rows = rows.spare }
 
-  -- the records are filed, there are cells for the numbers of each row, and each cell has an id
-  abbrev pub AllPlaced : Store (Leaf K V) → Numbers (List ℕ) → List ℕ → Type 0
-  AllPlaced leaves rows ids = AllFiled leaves rows.pairs × (ROW * rows.top ≤ length leaves.slots) × (length leaves.slots ≤ length ids)
+  -- the records are filed, and there is a record's place for each cell of the rows
+  abbrev pub AllPlaced : Store (Leaf K V) → Numbers (List ℕ) → Type 0
+  AllPlaced leaves rows = AllFiled leaves rows.pairs × (ROW * rows.top ≤ length leaves.slots)

@@ -4,35 +4,28 @@ use Rattle.std.specs.Coded.{Coded, code_by, coded×, coded_ℕ, coded_list}
 use Rattle.std.specs.List.{AllZip}
 use Rattle.art_rows.specs.Numbers.{Numbered}
 use Rattle.art_rows.specs.Rows.{place_in, lengths}
-use Rattle.art_rows.specs.RowRoom.{turns, row_room, row_end_room}
+use Rattle.art_rows.specs.RowRoom.{row_room, row_end_room}
 use Rattle.art_rows.specs.declared.row.TheConstants.{ROW}
 
--- the pairs in order, each under its number; the rows of their numbers; the number of spare rows;
--- the number of cells; and the ids of the cells
+-- the pairs in order, each under its id, the rows of their ids, and the number of spare rows
 pub record Leaves (K V : Type 0) : Type 0 where
   pub pairs : List (Numbered (K × V))
   pub rows : List (Numbered (List ℕ))
   pub spare_rows : ℕ
-  pub cells : ℕ
-  pub ids : List ℕ
 
 abbrev pub leaves_code : {K V : Type 0} → Coded K → Coded V → Coded (Leaves K V)
 leaves_code {K} {V} k v =
     code_by
-    (List (ℕ × (K × V)) × (List (ℕ × List ℕ) × (ℕ × (ℕ × List ℕ))))
-    (coded× (coded_list (coded× coded_ℕ (coded× k v))) (coded× (coded_list (coded× coded_ℕ (coded_list coded_ℕ))) (coded× coded_ℕ (coded× coded_ℕ (coded_list coded_ℕ)))))
-    (λ s. (s.pairs, (s.rows, (s.spare_rows, (s.cells, s.ids)))))
-    (λ p. record { pairs = p.0; rows = p.1.0; spare_rows = p.1.1.0; cells = p.1.1.1.0; ids = p.1.1.1.1 })
+    (List (ℕ × (K × V)) × (List (ℕ × List ℕ) × ℕ))
+    (coded× (coded_list (coded× coded_ℕ (coded× k v))) (coded× (coded_list (coded× coded_ℕ (coded_list coded_ℕ))) coded_ℕ))
+    (λ s. (s.pairs, (s.rows, s.spare_rows)))
+    (λ p. record { pairs = p.0; rows = p.1.0; spare_rows = p.1.1 })
     (λ _. refl)
 
 module _ {K V : Type 0} where
   -- for how many more leaves there surely is room
   abbrev pub room : Leaves K V → ℕ
   room l = row_room (lengths l.rows) l.spare_rows
-
-  -- for how many placements there surely is a row, by the lengths of the rows alone
-  abbrev pub turns_of : Leaves K V → ℕ
-  turns_of l = turns (lengths l.rows) l.spare_rows
 
   -- for how many more leaves there is room after all others
   abbrev pub end_room : Leaves K V → ℕ

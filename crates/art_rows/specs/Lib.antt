@@ -2,9 +2,8 @@ pub mod Numbers
 pub mod Links
 pub mod ChainLends
 pub mod Rows
-pub mod Blocks
+pub mod Cells
 pub mod RowRoom
-pub mod Ids
 pub mod Leaves
 pub mod Filing
 pub mod LeafLends

@@ -1,5 +1,5 @@
 -- Rows of numbers: the row and the place of a number, and the numbers of all rows in order.
-use Rattle.std.specs.Prelude.{◌≡◌, ◌≤◌, ℕ, zero, suc, ◌+◌, ◌-◌, ◌<◌, List, [], ◌∷◌, ◌++◌, length, map, Option, option_map, Some, None, Bool, true, false, if◌then◌else◌, eqb, ltb}
+use Rattle.std.specs.Prelude.{◌≡◌, ◌≤◌, ℕ, zero, suc, ◌+◌, ◌-◌, ◌<◌, List, [], ◌∷◌, ◌++◌, length, map, Option, Some, None, IfSome, Bool, true, false, if◌then◌else◌, eqb, ltb}
 use Rattle.art_rows.specs.Numbers.{Numbered}
 use Rattle.art_rows.specs.declared.following.Following.{Following}
 use Rattle.art_rows.specs.declared.row.Position.{Position}
@@ -80,7 +80,7 @@ module _ {X : Type 0} where
   abbrev pub RunsBefore : List (Numbered X) → ℕ → List ℕ → Type 0
   RunsBefore ps i run = (length run ≤ place_in (map (λ p. p.0) ps) i) × ((j n : ℕ) → nth run j ≡ Some n → nth (map (λ p. p.0) ps) (place_in (map (λ p. p.0) ps) i + j - length run) ≡ Some n)
 
-  -- the run comes directly after i, and then the start of the row, or nothing if none is named
+  -- the run comes directly after i, and then the start of the row, if one is named
   pub record StandsAfter (ps : List (Numbered X)) (rows : List (Numbered (List ℕ))) (i : ℕ) (following : Following) : Type 0 where
     pub run : RunsAfter ps i following.run
-    pub row : option_map start_of following.row ≡ position_at rows (place_in (map (λ p. p.0) ps) i + 1 + length following.run)
+    pub row : IfSome following.row (λ r. position_at rows (place_in (map (λ p. p.0) ps) i + 1 + length following.run) ≡ Some (start_of r))

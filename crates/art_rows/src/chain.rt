@@ -6,7 +6,6 @@ ghost use Rattle.art_rows.specs.Numbers.{leaf_in, Has, first_number, last_number
 ghost use Rattle.art_rows.specs.Links.{with_next, with_prev, end_with};
 ghost use Rattle.art_rows.specs.ChainLends.{lends_item, lends_at};
 
-use crate::row::Row;
 use art_slots::Slots;
 use std::alloc::{AllocError, Global};
 use std::marker::Model;
@@ -29,12 +28,12 @@ impl<T> Link<T> {
     }
 }
 
-impl Clone for Link<Row> {
+impl Clone for Link<usize> {
     ghost is_clone = { λ x y. y ≡ x };
 
     fn clone(&self) -> Result<Self, AllocError> {
         Ok(Link {
-            item: self.item.copy(),
+            item: self.item,
             prev: self.prev,
             next: self.next,
         })
@@ -107,8 +106,8 @@ fn set_prev<T>(
     }
 }
 
-impl Chain<Row> {
-    /// Returns a copy with the same rows under the same numbers, or an error if it fails to
+impl Chain<usize> {
+    /// Returns a copy with the same items under the same numbers, or an error if it fails to
     /// allocate.
     pub(crate) fn clone(&self) -> Result<Self, AllocError>
         ensures same { IfOk result (λ copy. copy.pairs ≡ self.now.pairs) }

@@ -1,23 +1,20 @@
 //! The leaf records, and their rows in the order of the keys.
-ghost use Rattle.std.specs.Prelude.{◌≡◌, ◌≢◌, ℕ, ◌+◌, ◌-◌, ◌*◌, ◌^◌, ◌<◌, ◌≤◌, ◌++◌, [], length, map, option_map, take, drop, Option, Some, None, IsSome, IfSome, OnOk, IfOk, OnErr};
+ghost use Rattle.std.specs.Prelude.{◌≡◌, ◌≢◌, ℕ, ◌+◌, ◌-◌, ◌*◌, ◌<◌, ◌≤◌, [], length, map, option_map, Some, None, IsSome, IfSome, OnOk, IfOk, OnErr};
 ghost use Rattle.art_rows.specs.Numbers.{leaf_in, Has, AreDistinct, first_number, last_number, number_after, number_before, without_number, with_pair};
-ghost use Rattle.art_rows.specs.Rows.{position_at, nth, RunsBefore, StandsAfter};
+ghost use Rattle.art_rows.specs.Rows.{position_at, nth, start_of, RunsBefore, StandsAfter};
 ghost use Rattle.art_rows.specs.declared.row.Position.{Position};
 ghost use Rattle.art_rows.specs.declared.row.TheConstants.{ROW};
 ghost use Rattle.art_rows.specs.Leaves.{index_of, room, end_room, TakesFirst, TakesLast, AreCopies};
-ghost use Rattle.art_rows.specs.Ids.{id_at, Extends};
 ghost use Rattle.art_rows.specs.LeafLends.{lends_value, lends_leaf};
 ghost use Rattle.std.specs.Borrow.{sem};
 
 mod placing;
 
-use crate::chain::Chain;
 use crate::following::Following;
-use crate::ids::Ids;
-use crate::row::{HALF, Position, ROW, Row};
+use crate::row::{HALF, Position, ROW};
+use crate::rows::Rows;
 use crate::run::Run;
-use art_slots::{CellId, Table, Visits};
-pub use placing::Moved;
+use art_slots::{LeafId, Table, Visits};
 use std::alloc::{AllocError, Global};
 use std::marker::Model;
 use std::mem;
@@ -54,17 +51,15 @@ impl<K: Clone, V: Clone> Clone for Leaf<K, V> {
     }
 }
 
-/// The leaves of a tree in byte order. A contract sees the pairs in order, each under the number of
-/// its cell, the rows of the numbers, and the number of spare rows.
+/// The leaves of a tree in byte order. A contract sees the pairs in order, each under its leaf's
+/// id, the rows of the ids, and the number of spare rows.
 ///
-/// The numbers of a row are those of 64 consecutive cells. So the number of a cell tells its row,
-/// and neighbouring leaves lie close together.
+/// The id of a leaf is the number of its cell. A row takes a cell that it has and does not use for
+/// a new leaf, so the leaves of a row lie in few places.
 #[derive(Drop)]
 pub struct Leaves<K, V> {
     pub(crate) records: Table<Leaf<K, V>>,
-    pub(crate) rows: Chain<Row>,
-    /// The ids of the cells. A leaf that moves to another cell takes its id along.
-    pub(crate) ids: Ids,
+    pub(crate) rows: Rows,
 }
 
 impl<K, V> Model for Leaves<K, V> {
@@ -76,9 +71,9 @@ impl<K, V> Model for Leaves<K, V> {
 
     ghost use Rattle.art_rows.specs.Filing.{content, AllPlaced};
 
-    ghost view = { λ t. content t.records t.rows t.ids };
+    ghost view = { λ t. content t.records t.rows };
 
-    ghost invariant = { λ t. AllPlaced t.records t.rows t.ids };
+    ghost invariant = { λ t. AllPlaced t.records t.rows };
 }
 
 impl<K, V> Leaves<K, V> {
@@ -87,26 +82,19 @@ impl<K, V> Leaves<K, V> {
         ensures pairs { result.pairs ≡ [] }
         ensures rows { result.rows ≡ [] }
         ensures spare_rows { result.spare_rows ≡ 0 }
-        ensures cells { result.cells ≡ 0 }
     {
         Leaves {
             records: Table::new(alloc),
-            rows: Chain::new(alloc),
-            ids: Ids::new(alloc),
+            rows: Rows::new(alloc),
         }
     }
 
-    /// Does nothing. Its contract says that no number of a leaf or of a row comes twice, that each
-    /// number of a leaf is less than the number of cells, and that each cell has an id of its own.
+    /// Does nothing. Its contract says that no id comes twice, and no number of a row.
     pub fn law(&self)
         ensures distinct { AreDistinct self.now.pairs }
-        ensures below { (i : ℕ) → Has self.now.pairs i → i < self.now.cells }
         ensures rows { AreDistinct self.now.rows }
-        ensures named { self.now.cells ≤ length self.now.ids }
-        ensures apart { (c d : ℕ) → c < length self.now.ids → d < length self.now.ids
-            → id_at self.now.ids c ≡ id_at self.now.ids d → c ≡ d }
     {
-        self.ids.law();
+        let _ = &self.rows;
     }
 
     /// Returns the number of leaves.
@@ -116,86 +104,17 @@ impl<K, V> Leaves<K, V> {
         self.records.used()
     }
 
-    /// Returns the number of cells. The number of each leaf's cell is less.
-    pub fn cells(&self) -> usize
-        ensures value { result ≡ self.now.cells }
-        ensures small { result < 2 ^ 61 }
-    {
-        self.records.len()
-    }
-
-    /// Returns the id of the leaf in a cell. Reads no leaf.
-    #[inline(always)]
-    pub fn id_of(&self, cell: CellId) -> usize
-        requires { Has self.now.pairs cell }
-        ensures id { result ≡ id_at self.now.ids cell }
-        ensures small { result < 2 ^ 61 }
-    {
-        self.law();
-        self.ids.id_of(cell.number())
-    }
-
-    /// Returns the cell of the leaf with an id. Reads no leaf.
-    #[inline(always)]
-    pub fn cell_of(&self, id: usize) -> CellId
-        requires { (cell : ℕ) × Has self.now.pairs cell × (id_at self.now.ids cell ≡ id) }
-        ensures has { Has self.now.pairs result }
-        ensures id { id_at self.now.ids result ≡ id }
-    {
-        self.law();
-        CellId::new(self.ids.cell_of(id))
-    }
-
-    /// Returns the cell of the leaf with an id. `seen` is a guess of the position of the leaf. If
-    /// it is right, the row alone tells the cell. Reads no leaf.
-    #[inline(always)]
-    pub fn cell_near(&self, id: usize, seen: Position) -> CellId
-        requires { (cell : ℕ) × Has self.now.pairs cell × (id_at self.now.ids cell ≡ id) }
-        ensures has { Has self.now.pairs result }
-        ensures id { id_at self.now.ids result ≡ id }
-    {
-        match self.cell_at(seen) {
-            Some(cell) if self.id_of(cell) == id => cell,
-            _ => self.cell_of(id),
-        }
-    }
-
-    /// Returns the cell of the leaf with an id. `seen` is a guess of it. If it is right, the table
-    /// that leads from ids to cells is not read. Reads no leaf.
-    pub fn cell_again(&self, id: usize, seen: CellId) -> CellId
-        requires { (cell : ℕ) × Has self.now.pairs cell × (id_at self.now.ids cell ≡ id) }
-        ensures has { Has self.now.pairs result }
-        ensures id { id_at self.now.ids result ≡ id }
-    {
-        self.law();
-        if self.ids.is_of(id, seen.number()) {
-            return seen;
-        }
-        self.cell_of(id)
-    }
-
-    /// Returns the cell at a position, if there is one.
-    #[inline(always)]
-    pub(crate) fn cell_at(&self, seen: Position) -> Option<CellId>
-        ensures { IfSome result (Has self.now.pairs) }
-    {
-        let row = self.rows.get(seen.row)?;
-        if seen.place >= row.len() {
-            return None;
-        }
-        Some(row.run().at(seen.place))
-    }
-
     /// Returns the position of a leaf. It tries the end of the leaf's row first: if pairs come in
-    /// ascending order, each comes after the last leaf of a row, and no row is searched.
-    pub(crate) fn position_of(&self, id: CellId) -> Position
+    /// ascending order, each comes after the last leaf of a row, and no row is searched. Reads no
+    /// leaf.
+    pub fn position_of(&self, id: LeafId) -> Position
         requires { Has self.now.pairs id }
         ensures { position_at self.now.rows (index_of self.now.pairs id) ≡ Some result }
     {
-        let row = id.number() / ROW;
+        let row = self.rows.row_of(id);
         let ids = self.rows.read(row);
         let last = ids.len() - 1;
-        if ids.run().has_at(last, id) {
+        if ids.has_at(last, id) {
             return Position { row, place: last };
         }
         let place = ids.place_of(id);
@@ -206,19 +125,19 @@ impl<K, V> Leaves<K, V> {
     /// that a step of a cursor is short. It returns two words, which go in registers: a larger
     /// result would go through memory, and each step would clear that memory.
     #[inline(never)]
-    fn position_near(&self, id: CellId, seen: Position) -> Position
+    fn position_near(&self, id: LeafId, seen: Position) -> Position
         requires { Has self.now.pairs id }
         ensures { position_at self.now.rows (index_of self.now.pairs id) ≡ Some result }
     {
         match self.rows.get(seen.row) {
-            Some(row) if row.run().has_at(seen.place, id) => seen,
+            Some(row) if row.has_at(seen.place, id) => seen,
             _ => self.position_of(id),
         }
     }
 
     /// Returns the leaf after this one, if `seen` is the position of this one, and it is not the
     /// last of its row.
-    fn after_in_row(&self, id: CellId, seen: Position) -> Option<CellId>
+    fn after_in_row(&self, id: LeafId, seen: Position) -> Option<LeafId>
         requires { Has self.now.pairs id }
         ensures after { IfSome result (λ n. number_after self.now.pairs id ≡ Some n) }
         ensures within { IfSome result (λ _. seen.place < ROW) }
@@ -227,12 +146,12 @@ impl<K, V> Leaves<K, V> {
     {
         let row = self.rows.get(seen.row)?;
         let _len = row.len();
-        row.run().after(seen.place, id)
+        row.after(seen.place, id)
     }
 
     /// Returns the leaf before this one, if `seen` is the position of this one, and it is not the
     /// first of its row.
-    fn before_in_row(&self, id: CellId, seen: Position) -> Option<CellId>
+    fn before_in_row(&self, id: LeafId, seen: Position) -> Option<LeafId>
         requires { Has self.now.pairs id }
         ensures before { IfSome result (λ n. number_before self.now.pairs id ≡ Some n) }
         ensures within { IfSome result (λ _. 0 < seen.place) }
@@ -240,16 +159,16 @@ impl<K, V> Leaves<K, V> {
             → 0 < seen.place → IsSome result) }
     {
         let row = self.rows.get(seen.row)?;
-        row.run().before(seen.place, id)
+        row.before(seen.place, id)
     }
 
     /// Returns the number at a position.
-    pub(crate) fn number(&self, position: Position) -> CellId
+    pub(crate) fn number(&self, position: Position) -> LeafId
         requires { (k : ℕ) × (position_at self.now.rows k ≡ Some position) }
         ensures { (k : ℕ) → position_at self.now.rows k ≡ Some position
             → nth (map (λ p. p.0) self.now.pairs) k ≡ Some result }
     {
-        self.rows.read(position.row).run().at(position.place)
+        self.rows.read(position.row).at(position.place)
     }
 
     /// Returns the position of the first leaf.
@@ -321,7 +240,7 @@ impl<K, V> Leaves<K, V> {
     }
 
     /// Returns the pair of a leaf. One visit.
-    pub fn read(&self, id: CellId, visits: &mut Visits) -> (&K, &V)
+    pub fn read(&self, id: LeafId, visits: &mut Visits) -> (&K, &V)
         requires { Has self.now.pairs id }
         ensures value { leaf_in self.now.pairs id ≡ Some (result.0.now, result.1.now) }
         ensures counted { visits.new.count ≡ visits.old.count + 1 }
@@ -332,7 +251,7 @@ impl<K, V> Leaves<K, V> {
     }
 
     /// Returns the first leaf.
-    pub fn first(&self) -> Option<CellId>
+    pub fn first(&self) -> Option<LeafId>
         ensures { result ≡ first_number self.now.pairs }
     {
         let _ = &self.rows;
@@ -343,7 +262,7 @@ impl<K, V> Leaves<K, V> {
     }
 
     /// Returns the last leaf.
-    pub fn last(&self) -> Option<CellId>
+    pub fn last(&self) -> Option<LeafId>
         ensures { result ≡ last_number self.now.pairs }
     {
         let _ = &self.rows;
@@ -354,7 +273,7 @@ impl<K, V> Leaves<K, V> {
     }
 
     /// Returns the leaf after this one.
-    pub fn next_of(&self, id: CellId) -> Option<CellId>
+    pub fn next_of(&self, id: LeafId) -> Option<LeafId>
         requires { Has self.now.pairs id }
         ensures { result ≡ number_after self.now.pairs id }
     {
@@ -369,7 +288,7 @@ impl<K, V> Leaves<K, V> {
     /// right, no row is searched. The call sets it to the position of the returned leaf. Reads no
     /// leaf.
     #[inline(always)]
-    pub fn next_from(&self, id: CellId, seen: &mut Position) -> Option<CellId>
+    pub fn next_from(&self, id: LeafId, seen: &mut Position) -> Option<LeafId>
         requires { Has self.now.pairs id }
         ensures { result ≡ number_after self.now.pairs id }
     {
@@ -385,7 +304,7 @@ impl<K, V> Leaves<K, V> {
     /// Returns the leaf after this one, and its position, if the guess `seen` is wrong or the row
     /// ends.
     #[inline(always)]
-    fn next_by_rows(&self, id: CellId, seen: Position) -> (Option<CellId>, Position)
+    fn next_by_rows(&self, id: LeafId, seen: Position) -> (Option<LeafId>, Position)
         requires { Has self.now.pairs id }
         ensures { result.0 ≡ number_after self.now.pairs id }
     {
@@ -400,7 +319,7 @@ impl<K, V> Leaves<K, V> {
     /// right, no row is searched. The call sets it to the position of the returned leaf. Reads no
     /// leaf.
     #[inline(always)]
-    pub fn prev_from(&self, id: CellId, seen: &mut Position) -> Option<CellId>
+    pub fn prev_from(&self, id: LeafId, seen: &mut Position) -> Option<LeafId>
         requires { Has self.now.pairs id }
         ensures { result ≡ number_before self.now.pairs id }
     {
@@ -416,7 +335,7 @@ impl<K, V> Leaves<K, V> {
     /// Returns the leaf before this one, and its position, if the guess `seen` is wrong or the row
     /// begins.
     #[inline(always)]
-    fn prev_by_rows(&self, id: CellId, seen: Position) -> (Option<CellId>, Position)
+    fn prev_by_rows(&self, id: LeafId, seen: Position) -> (Option<LeafId>, Position)
         requires { Has self.now.pairs id }
         ensures { result.0 ≡ number_before self.now.pairs id }
     {
@@ -427,22 +346,27 @@ impl<K, V> Leaves<K, V> {
         }
     }
 
-    /// Returns the rest of the row of a leaf, and the next row.
-    pub fn following(&self, id: CellId) -> Following<'_>
+    /// Returns the rest of the row of a leaf, and the next row. Returns none of them if the row's
+    /// ids have high halves.
+    pub fn following(&self, id: LeafId) -> Following<'_>
         requires { Has self.now.pairs id }
         ensures { StandsAfter self.now.pairs self.now.rows id result }
     {
         let position = self.position_of(id);
-        let run = self.rows.read(position.row).run().run_after(position.place);
-        let row = self.row_told(position.row);
-        Following { run, row }
+        match self.rows.read(position.row).run_after(position.place) {
+            None => Following::unknown(),
+            Some(run) => {
+                let row = self.row_told(position.row);
+                Following { run, row }
+            }
+        }
     }
 
-    /// Returns the leaf after this one. `following` is the rest of the row of this leaf and the
-    /// next row, and the call sets it to those of the returned leaf. The next row is only read at
-    /// the end of a row.
+    /// Returns the leaf after this one. `following` has ids directly after this one in its row, and
+    /// the next row if they are all. The call sets it to those of the returned leaf. The next row
+    /// is only read at the end of a row.
     #[inline(always)]
-    pub fn next_in<'a>(&'a self, id: CellId, following: &mut Following<'a>) -> Option<CellId>
+    pub fn next_in<'a>(&'a self, id: LeafId, following: &mut Following<'a>) -> Option<LeafId>
         requires has { Has self.now.pairs id }
         requires following { StandsAfter self.now.pairs self.now.rows id following.old }
         ensures next { result ≡ number_after self.now.pairs id }
@@ -456,12 +380,21 @@ impl<K, V> Leaves<K, V> {
         }
         let rows = &self.rows;
         let Some(row) = following.row else {
-            return None;
+            following.run = Run::empty();
+            return self.next_of(id);
         };
-        let mut run = rows.read(row).run();
-        let next = run.split_off_first().unwrap();
-        following.run = run;
-        following.row = self.row_told(row);
+        let ids = rows.read(row);
+        let next = ids.at(0);
+        match ids.run_after(0) {
+            None => {
+                following.run = Run::empty();
+                following.row = None;
+            }
+            Some(run) => {
+                following.run = run;
+                following.row = self.row_told(row);
+            }
+        }
         Some(next)
     }
 
@@ -487,7 +420,7 @@ impl<K, V> Leaves<K, V> {
     /// Returns the leaf before this one. `run` has numbers directly before this one in its row, and
     /// the call sets it to such numbers of the returned leaf. If it is not empty, no row is read.
     #[inline(always)]
-    pub fn prev_in<'a>(&'a self, id: CellId, run: &mut Run<'a>) -> Option<CellId>
+    pub fn prev_in<'a>(&'a self, id: LeafId, run: &mut Run<'a>) -> Option<LeafId>
         requires has { Has self.now.pairs id }
         requires runs { RunsBefore self.now.pairs id run.old }
         ensures prev { result ≡ number_before self.now.pairs id }
@@ -505,7 +438,7 @@ impl<K, V> Leaves<K, V> {
     /// Returns the leaf before this one, and the numbers before that leaf in its row.
     #[cold]
     #[inline(never)]
-    fn prev_run(&self, id: CellId) -> (Option<CellId>, Run<'_>)
+    fn prev_run(&self, id: LeafId) -> (Option<LeafId>, Run<'_>)
         requires { Has self.now.pairs id }
         ensures prev { result.0 ≡ number_before self.now.pairs id }
         ensures runs { IfSome result.0 (λ n. RunsBefore self.now.pairs n result.1) }
@@ -514,12 +447,16 @@ impl<K, V> Leaves<K, V> {
         let Some(position) = self.backward(self.position_of(id)) else {
             return (None, Run::empty());
         };
-        let run = rows.read(position.row).run();
-        (Some(run.at(position.place)), run.run_before(position.place))
+        let ids = rows.read(position.row);
+        let prev = ids.at(position.place);
+        match ids.run_before(position.place) {
+            None => (Some(prev), Run::empty()),
+            Some(run) => (Some(prev), run),
+        }
     }
 
     /// Returns the leaf before this one.
-    pub fn prev_of(&self, id: CellId) -> Option<CellId>
+    pub fn prev_of(&self, id: LeafId) -> Option<LeafId>
         requires { Has self.now.pairs id }
         ensures { result ≡ number_before self.now.pairs id }
     {
@@ -533,7 +470,7 @@ impl<K, V> Leaves<K, V> {
 
 impl<K, V> Leaves<K, V> {
     /// Returns the key of a leaf, and a mutable reference to its value.
-    pub fn get_mut(&mut self, id: CellId) -> (&K, &mut V)
+    pub fn get_mut(&mut self, id: LeafId) -> (&K, &mut V)
         requires { Has self.old.pairs id }
         ensures* writes_back { sem 𝓛 (lends_leaf K.row V.row self.entry id result.1) }
         ensures value { leaf_in self.old.pairs id ≡ Some (result.0.now, result.1.now) }
@@ -542,36 +479,12 @@ impl<K, V> Leaves<K, V> {
     }
 
     /// Returns a mutable reference to the value of a leaf.
-    pub fn value_mut(&mut self, id: CellId) -> &mut V
+    pub fn value_mut(&mut self, id: LeafId) -> &mut V
         requires { Has self.old.pairs id }
         ensures* writes_back { sem 𝓛 (lends_leaf K.row V.row self.entry id result) }
         ensures value { option_map (λ p. p.1) (leaf_in self.old.pairs id) ≡ Some result.now }
     {
         self.get_mut(id).1
-    }
-}
-
-/// Removes the number at a position from its row, and the row if it has no other number.
-fn take_out(rows: &mut Chain<Row>, position: Position)
-    requires has { Has rows.old.pairs position.row }
-    requires within { IfSome (leaf_in rows.old.pairs position.row)
-        (λ ids. position.place < length ids) }
-    ensures one { IfSome (leaf_in rows.old.pairs position.row) (λ ids. length ids ≡ 1
-        → rows.new.pairs ≡ without_number rows.old.pairs position.row) }
-    ensures more { IfSome (leaf_in rows.old.pairs position.row) (λ ids. length ids ≢ 1
-        → rows.new.pairs ≡ with_pair rows.old.pairs position.row
-        (take position.place ids ++ drop (position.place + 1) ids)) }
-    ensures grows { rows.old.spare ≤ rows.new.spare }
-    ensures gains { IfSome (leaf_in rows.old.pairs position.row) (λ ids. length ids ≡ 1
-        → rows.new.spare ≡ rows.old.spare + 1) }
-    ensures keeps { IfSome (leaf_in rows.old.pairs position.row) (λ ids. length ids ≢ 1
-        → rows.new.spare ≡ rows.old.spare) }
-    ensures top { rows.new.top ≡ rows.old.top }
-{
-    if rows.read(position.row).len() == 1 {
-        let _ = rows.remove(position.row);
-    } else {
-        rows.get_mut(position.row).remove(position.place);
     }
 }
 
@@ -581,48 +494,37 @@ impl<K: Clone, V: Clone> Leaves<K, V> {
     pub fn clone(&self) -> Result<Self, AllocError>
         ensures cloned { IfOk result
             (λ copy. AreCopies K.is_clone V.is_clone self.now.pairs copy.pairs) }
-        ensures cells { IfOk result (λ copy. copy.cells ≡ self.now.cells) }
-        ensures ids { IfOk result (λ copy. copy.ids ≡ self.now.ids) }
     {
         Ok(Leaves {
             records: self.records.clone()?,
             rows: self.rows.clone()?,
-            ids: self.ids.clone()?,
         })
     }
 }
 
 impl<K: Drop, V: Drop> Leaves<K, V> {
-    /// Removes a leaf, and returns its pair.
-    pub fn remove(&mut self, id: CellId) -> (K, V)
+    /// Removes a leaf, and returns its pair. `seen` is a guess of the position of the leaf. If it is
+    /// right, no row is searched.
+    pub fn remove(&mut self, id: LeafId, seen: Position) -> (K, V)
         requires { Has self.old.pairs id }
         ensures value { leaf_in self.old.pairs id ≡ Some result }
         ensures rest { self.new.pairs ≡ without_number self.old.pairs id }
         ensures room { room self.old ≤ room self.new }
-        ensures cells { self.new.cells ≡ self.old.cells }
-        ensures ids { self.new.ids ≡ self.old.ids }
     {
-        let position = self.position_of(id);
+        let position = self.position_near(id, seen);
         self.remove_at(id, position)
     }
 
     /// Removes the leaf at this position, and returns its pair.
-    fn remove_at(&mut self, id: CellId, position: Position) -> (K, V)
+    fn remove_at(&mut self, id: LeafId, position: Position) -> (K, V)
         requires has { Has self.old.pairs id }
         requires at { position_at self.old.rows (index_of self.old.pairs id) ≡ Some position }
         ensures value { leaf_in self.old.pairs id ≡ Some result }
         ensures rest { self.new.pairs ≡ without_number self.old.pairs id }
-        ensures rows { IfSome (leaf_in self.old.rows position.row) (λ ids. length ids ≢ 1
-            → self.new.rows ≡ with_pair self.old.rows position.row
-            (take position.place ids ++ drop (position.place + 1) ids)) }
-        ensures spare_rows { IfSome (leaf_in self.old.rows position.row) (λ ids. length ids ≢ 1
-            → self.new.spare_rows ≡ self.old.spare_rows) }
         ensures room { room self.old ≤ room self.new }
-        ensures cells { self.new.cells ≡ self.old.cells }
-        ensures ids { self.new.ids ≡ self.old.ids }
     {
         let leaf = self.records.take(id.number());
-        take_out(&mut self.rows, position);
+        self.rows.remove(position.row, position.place);
         (leaf.key, leaf.value)
     }
 
@@ -630,8 +532,6 @@ impl<K: Drop, V: Drop> Leaves<K, V> {
     /// removes one leaf after another need not wait for one to find the next.
     pub fn take_first(&mut self) -> Option<(K, V)>
         ensures takes { TakesFirst self.old.pairs result self.new.pairs }
-        ensures cells { self.new.cells ≡ self.old.cells }
-        ensures ids { self.new.ids ≡ self.old.ids }
     {
         let _ = &self.rows;
         let Some(position) = self.first_position() else {
@@ -644,8 +544,6 @@ impl<K: Drop, V: Drop> Leaves<K, V> {
     /// Removes the last leaf, and returns its pair. The rows alone tell its cell.
     pub fn take_last(&mut self) -> Option<(K, V)>
         ensures takes { TakesLast self.old.pairs result self.new.pairs }
-        ensures cells { self.new.cells ≡ self.old.cells }
-        ensures ids { self.new.ids ≡ self.old.ids }
     {
         let _ = &self.rows;
         let Some(position) = self.last_position() else {
@@ -656,14 +554,12 @@ impl<K: Drop, V: Drop> Leaves<K, V> {
     }
 
     /// Replaces the pair of a leaf, and returns the old pair.
-    pub fn exchange(&mut self, id: CellId, key: K, value: V) -> (K, V)
+    pub fn exchange(&mut self, id: LeafId, key: K, value: V) -> (K, V)
         requires { Has self.old.pairs id }
         ensures value { leaf_in self.old.pairs id ≡ Some result }
         ensures pairs { self.new.pairs ≡ with_pair self.old.pairs id (key, value) }
         ensures rows { self.new.rows ≡ self.old.rows }
         ensures spare_rows { self.new.spare_rows ≡ self.old.spare_rows }
-        ensures cells { self.new.cells ≡ self.old.cells }
-        ensures ids { self.new.ids ≡ self.old.ids }
     {
         let leaf = self.records.get_mut(id.number());
         let old_key = mem::replace(&mut leaf.key, key);
@@ -680,8 +576,6 @@ impl<K: Drop, V: Drop> Leaves<K, V> {
         ensures grows { room self.old ≤ room self.new }
         ensures ok { OnOk result (n ≤ room self.new) }
         ensures needed { OnErr result (self.old.spare_rows < n) }
-        ensures cells { self.old.cells ≤ self.new.cells }
-        ensures ids { Extends self.old.ids self.new.ids }
     {
         let sure = n.div_ceil(HALF) + self.records.used().div_ceil(ROW) + 1;
         let rows = if sure < n { sure } else { n };
@@ -700,8 +594,6 @@ impl<K: Drop, V: Drop> Leaves<K, V> {
         ensures grows { end_room self.old ≤ end_room self.new }
         ensures ok { OnOk result (n ≤ end_room self.new) }
         ensures needed { OnErr result (ROW * self.old.spare_rows < n) }
-        ensures cells { self.old.cells ≤ self.new.cells }
-        ensures ids { Extends self.old.ids self.new.ids }
     {
         let rows = n.div_ceil(ROW);
         if rows <= self.rows.spare() {
@@ -719,8 +611,6 @@ impl<K: Drop, V: Drop> Leaves<K, V> {
         ensures rows { self.new.rows ≡ self.old.rows }
         ensures grows { self.old.spare_rows ≤ self.new.spare_rows }
         ensures ok { OnOk result (count ≤ self.new.spare_rows) }
-        ensures cells { self.old.cells ≤ self.new.cells }
-        ensures ids { Extends self.old.ids self.new.ids }
     {
         if count >= MOST_ROWS {
             return Err(AllocError);
@@ -731,8 +621,8 @@ impl<K: Drop, V: Drop> Leaves<K, V> {
         }
         // The slab numbers the rows one after another, though it does not promise it. So this
         // allocates the cells of all of them at once.
-        self.ids.grow(ROW * rows)?;
         self.records.grow(ROW * rows)?;
+        self.rows.add_cells(rows)?;
         for _ in self.rows.spare()..count {
             self.add_row()?;
         }
@@ -745,16 +635,14 @@ impl<K: Drop, V: Drop> Leaves<K, V> {
         ensures rows { self.new.rows ≡ self.old.rows }
         ensures grows { self.old.spare_rows ≤ self.new.spare_rows }
         ensures ok { OnOk result (self.new.spare_rows ≡ self.old.spare_rows + 1) }
-        ensures cells { self.old.cells ≤ self.new.cells }
-        ensures ids { Extends self.old.ids self.new.ids }
     {
         self.rows.grow()?;
         let row = self.rows.next_place();
         if row >= MOST_ROWS {
             return Err(AllocError);
         }
-        self.ids.grow(ROW * (row + 1))?;
         self.records.grow(ROW * (row + 1))?;
+        self.rows.add_cells(row + 1)?;
         self.rows.add_place();
         Ok(())
     }
@@ -764,10 +652,8 @@ impl<K: Drop, V: Drop> Leaves<K, V> {
         ensures pairs { self.new.pairs ≡ [] }
         ensures rows { self.new.rows ≡ [] }
         ensures spare_rows { self.new.spare_rows ≡ 0 }
-        ensures cells { self.new.cells ≡ 0 }
     {
         self.records.clear();
         self.rows.clear();
-        self.ids.clear();
     }
 }

@@ -1,17 +1,21 @@
-//! Rows of the numbers of cells.
-ghost use Rattle.std.specs.Prelude.{◌≡◌, ℕ, ◌+◌, ◌-◌, ◌*◌, ◌^◌, ◌<◌, ◌≤◌, [], ◌∷◌, ◌++◌, length, take, drop, Some, true, false, slice_index_or};
-ghost use Rattle.art_rows.specs.Rows.{among, place_in, nowhere};
-ghost use Rattle.art_rows.specs.Blocks.{times, row_of};
+//! A row of the numbers of cells.
+ghost use Rattle.std.specs.Prelude.{◌≡◌, ℕ, ◌+◌, ◌-◌, ◌*◌, ◌^◌, ◌<◌, ◌≤◌, [], length, take, drop, Some, true, IfSome, IsSome, slice_index_or};
+ghost use Rattle.art_slots.specs.Words.{numbers as words, times};
+ghost use Rattle.art_rows.specs.Rows.{among, place_in, nth, nowhere};
+ghost use Rattle.art_rows.specs.Cells.{IsRow};
 
 use crate::run::Run;
-use art_slots::CellId;
+use art_slots::LeafId;
 use std::marker::Model;
 
-/// The number of cells in a block, which is the greatest length of a row.
+/// The number of cells that each row has, which is the greatest length of a row.
 pub(crate) const ROW: usize = 64;
 
-/// The number of leaves that move to a new row when a full row is cut.
-pub const HALF: usize = 32;
+/// The number of numbers that go to a new row when a full row is cut.
+pub(crate) const HALF: usize = 32;
+
+/// A number has a low half below this and a high half.
+const RADIX: usize = 1 << 32;
 
 /// A row, and a place in it.
 #[derive(Clone, Copy)]
@@ -31,71 +35,43 @@ impl Position {
     }
 }
 
-/// The cells of a block in order.
-pub(crate) const CELLS: [u8; 64] = [
-    0, 1, 2, 3, 4, 5, 6, 7, 8, 9, 10, 11, 12, 13, 14, 15, 16, 17, 18, 19, 20, 21, 22, 23, 24, 25,
-    26, 27, 28, 29, 30, 31, 32, 33, 34, 35, 36, 37, 38, 39, 40, 41, 42, 43, 44, 45, 46, 47, 48, 49,
-    50, 51, 52, 53, 54, 55, 56, 57, 58, 59, 60, 61, 62, 63,
-];
-
-/// The cells of a block, each as its distance from the first: those in use in the order of their
-/// keys, and then the others. A contract sees the list of the numbers of those in use.
+/// The numbers of the 64 cells of a row, with their low and high halves: those in use in the order
+/// of their keys, and then the others. A contract sees the list of the numbers of those in use.
 #[derive(Drop)]
-pub(crate) struct Row {
-    pub(crate) block: usize,
+pub(crate) struct Row<'a> {
+    pub(crate) low: &'a [u32],
+    /// The high halves. They are empty if all numbers are less than 2^32.
+    pub(crate) high: &'a [u32],
     pub(crate) count: usize,
-    pub(crate) cells: [u8; 64],
 }
 
-impl Model for Row {
-    ghost use Rattle.std.specs.Prelude.{◌≡◌, ◌≤◌, ◌+◌, ◌*◌, ◌^◌, List, ℕ, take, length};
+impl<'a> Model for Row<'a> {
+    ghost use Rattle.std.specs.Prelude.{List, ℕ, take};
     ghost use Rattle.std.specs.Coded.{coded_list, coded_ℕ};
+    ghost use Rattle.art_slots.specs.Words.{numbers as words};
+    ghost use Rattle.art_rows.specs.Cells.{IsRow};
 
     ghost Value = { List ℕ };
 
     ghost coded = { coded_list coded_ℕ };
 
-    ghost use Rattle.art_rows.specs.Blocks.{numbers_at, ArePlaces};
-    ghost use Rattle.art_rows.specs.declared.row.TheConstants.{ROW};
+    ghost view = { λ r. take r.count (words r.low.now r.high.now) };
 
-    ghost view = { λ r. numbers_at (ROW * r.block) (take r.count r.cells) };
-
-    ghost invariant = { λ r. (ROW * r.block + ROW ≤ 2 ^ 61) × (r.count ≤ ROW) × (length r.cells ≡ ROW) × ArePlaces r.cells };
+    ghost invariant = { λ r. IsRow r.low.now r.high.now r.count };
 }
 
-impl Row {
-    /// Returns a row of a block with one cell in use, and the number of that cell: the last cell of
-    /// the block if `down` is set, or else the first.
-    pub(crate) fn new(block: usize, down: bool) -> (Row, CellId)
-        requires { ROW * block + ROW ≤ 2 ^ 61 }
-        ensures row { result.0 ≡ result.1 ∷ [] }
-        ensures own { row_of result.1 ≡ block }
+impl<'a> Row<'a> {
+    /// Returns the first `count` of these numbers.
+    #[inline(always)]
+    pub(crate) fn new(low: &'a [u32], high: &'a [u32], count: usize) -> Self
+        requires { IsRow low.now high.now count }
+        ensures { result ≡ take count (words low.now high.now) }
     {
-        let mut cells = CELLS;
-        if down {
-            cells.reverse();
-        }
-        let number = CellId::new(ROW * block + cells[0] as usize);
-        let row = Row {
-            block,
-            count: 1,
-            cells,
-        };
-        (row, number)
-    }
-
-    /// Returns a copy of the row.
-    pub(crate) fn copy(&self) -> Row
-        ensures { result ≡ self.now }
-    {
-        Row {
-            block: self.block,
-            count: self.count,
-            cells: self.cells,
-        }
+        Row { low, high, count }
     }
 
     /// Returns the number of cells in use.
+    #[inline(always)]
     pub(crate) fn len(&self) -> usize
         ensures len { result ≡ length self.now }
         ensures fits { length self.now ≤ ROW }
@@ -103,69 +79,136 @@ impl Row {
         self.count
     }
 
-    /// Returns the numbers of all cells in use.
-    pub(crate) fn run(&self) -> Run<'_>
-        ensures { result ≡ self.now }
+    /// Returns the number at a place.
+    #[inline(always)]
+    pub(crate) fn at(&self, place: usize) -> LeafId
+        requires { place < length self.now }
+        ensures { nth self.now place ≡ Some result }
     {
-        Run::new(ROW * self.block, &self.cells[..self.count])
+        LeafId::new(number_at(self.low, self.high, place))
     }
 
-    /// Returns the place of a number of the row. It searches all cells of the block, also those
-    /// that are not in use: a search of fewer cells takes longer, since its end is harder to
-    /// foresee.
-    pub(crate) fn place_of(&self, number: CellId) -> usize
+    /// Returns `true` if this number is at this place.
+    #[inline(always)]
+    pub(crate) fn has_at(&self, place: usize, number: LeafId) -> bool
+        ensures here { result ≡ true → nth self.now place ≡ Some number }
+        ensures there { nth self.now place ≡ Some number → result ≡ true }
+    {
+        place < self.count && self.at(place) == number
+    }
+
+    /// Returns the number after another, if that is at this place and is not the last.
+    #[inline(always)]
+    pub(crate) fn after(&self, place: usize, number: LeafId) -> Option<LeafId>
+        ensures some { IfSome result (λ n. (nth self.now place ≡ Some number)
+            × (nth self.now (place + 1) ≡ Some n)) }
+        ensures there { nth self.now place ≡ Some number → place + 1 < length self.now
+            → IsSome result }
+    {
+        if place < self.count && place + 1 < self.count && self.at(place) == number {
+            Some(self.at(place + 1))
+        } else {
+            None
+        }
+    }
+
+    /// Returns the number before another, if that is at this place and is not the first.
+    #[inline(always)]
+    pub(crate) fn before(&self, place: usize, number: LeafId) -> Option<LeafId>
+        ensures some { IfSome result (λ n. (0 < place) × (nth self.now place ≡ Some number)
+            × (nth self.now (place - 1) ≡ Some n)) }
+        ensures there { nth self.now place ≡ Some number → 0 < place → IsSome result }
+    {
+        if 0 < place && place < self.count && self.at(place) == number {
+            Some(self.at(place - 1))
+        } else {
+            None
+        }
+    }
+
+    /// Returns the place of a number of the row.
+    #[inline(always)]
+    pub(crate) fn place_of(&self, number: LeafId) -> usize
         requires { among self.now number ≡ true }
         ensures { result ≡ place_in self.now number }
     {
-        Run::new(ROW * self.block, &self.cells).place_of(number)
+        let number = number.number();
+        if self.high.len() == 0 {
+            place_of_half(self.low, number)
+        } else {
+            place_of_both(self.low, self.high, number)
+        }
     }
 
-    /// Inserts the number of a cell that was not in use at a place, and returns it.
-    pub(crate) fn insert(&mut self, place: usize) -> CellId
-        requires room { length self.old < ROW }
-        requires place { place ≤ length self.old }
-        ensures row { self.new ≡ take place self.old ++ result ∷ drop place self.old }
-        ensures fresh { among self.old result ≡ false }
-        ensures block { (n : ℕ) → among self.old n ≡ true → row_of result ≡ row_of n }
+    /// Returns the numbers after a place, or `None` if the numbers have high halves.
+    #[inline(always)]
+    pub(crate) fn run_after(&self, place: usize) -> Option<Run<'a>>
+        requires { place < length self.now }
+        ensures { IfSome result (λ run. run ≡ drop (place + 1) self.now) }
     {
-        let number = CellId::new(ROW * self.block + self.cells[self.count] as usize);
-        insert_in(&mut self.cells, self.count, place);
-        self.count += 1;
-        number
+        if self.high.len() != 0 {
+            return None;
+        }
+        Some(Run::new(&self.low[place + 1..self.count]))
     }
 
-    /// Removes the number at a place.
-    pub(crate) fn remove(&mut self, place: usize)
-        requires { place < length self.old }
-        ensures { self.new ≡ take place self.old ++ drop (place + 1) self.old }
+    /// Returns the numbers before a place, or `None` if the numbers have high halves.
+    #[inline(always)]
+    pub(crate) fn run_before(&self, place: usize) -> Option<Run<'a>>
+        requires { place < length self.now }
+        ensures { IfSome result (λ run. run ≡ take place self.now) }
     {
-        remove_in(&mut self.cells, self.count, place);
-        self.count -= 1;
+        if self.high.len() != 0 {
+            return None;
+        }
+        Some(Run::new(&self.low[..place]))
     }
 }
 
-/// Moves the cell after the first `count` cells to a place among them.
-fn insert_in(cells: &mut [u8], count: usize, place: usize)
-    requires place { place ≤ count }
-    requires room { count < length cells.old }
-    ensures first { take (count + 1) cells.new
-        ≡ take place (take count cells.old)
-        ++ slice_index_or cells.old count 0 ∷ drop place (take count cells.old) }
-    ensures same { (n : ℕ) → times cells.new n ≡ times cells.old n }
+/// Returns the place of a number that is at one place of 64. It looks at each place, and adds up
+/// the places of the number: a loop that ends early takes longer.
+fn place_of_half(low: &[u32], number: usize) -> usize
+    requires long { length low.now ≡ ROW }
+    requires once { times low.now number ≡ 1 }
+    ensures { result ≡ place_in low.now number }
 {
-    cells[place..count + 1].rotate_right(1);
+    let half = number as u32;
+    let mut at: u32 = 0;
+    for place in 0u32..64 {
+        at += if low[place as usize] == half {
+            place
+        } else {
+            0
+        };
+    }
+    at as usize
 }
 
-/// Moves a cell among the first `count` cells to their end, if it is not there.
-fn remove_in(cells: &mut [u8], count: usize, place: usize)
-    requires place { place < count }
-    requires within { count ≤ length cells.old }
-    ensures first { take (count - 1) cells.new ≡ take place (take count cells.old)
-        ++ drop (place + 1) (take count cells.old) }
-    ensures same { (n : ℕ) → times cells.new n ≡ times cells.old n }
+/// Returns the number at a place. A number with no high half is its low half.
+#[inline(always)]
+fn number_at(low: &[u32], high: &[u32], place: usize) -> usize
+    requires { place < length low.now }
+    ensures { result ≡ slice_index_or (words low.now high.now) place 0 }
 {
-    if place + 1 == count {
-        return;
+    let half = low[place] as usize;
+    if place < high.len() {
+        half + high[place] as usize * RADIX
+    } else {
+        half
     }
-    cells[place..count].rotate_left(1);
+}
+
+/// Returns the place of a number with a low and a high half, or the number of numbers if there is
+/// no such number.
+#[cold]
+#[inline(never)]
+fn place_of_both(low: &[u32], high: &[u32], number: usize) -> usize
+    ensures { result ≡ place_in (words low.now high.now) number }
+{
+    for place in 0..low.len() {
+        if number_at(low, high, place) == number {
+            return place;
+        }
+    }
+    low.len()
 }

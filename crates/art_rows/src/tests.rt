@@ -1,14 +1,14 @@
-//! Takes the leaves of a thousand keys apart. Each pattern names every field of its type, so a new
-//! field does not compile until a test looks at it.
-ghost use Rattle.art_rows.specs.Numbers.{Has};
+//! Takes leaves apart. Each pattern names every field of its type, so a new field does not compile
+//! until a test looks at it.
+ghost use Rattle.std.specs.Prelude.{◌<◌, length};
 
 use crate::chain::{Chain, Link};
 use crate::following::Following;
-use crate::ids::Ids;
 use crate::leaves::{Leaf, Leaves};
-use crate::row::{CELLS, Position, Row};
+use crate::row::{Position, Row};
+use crate::rows::Rows;
 use crate::run::Run;
-use art_slots::CellId;
+use art_slots::Words;
 use std::process::Abort;
 
 type Key = [u8; 3];
@@ -25,55 +25,45 @@ fn push(rt: &impl Abort, leaves: &mut Leaves<Key, usize>, place: usize) {
     leaves.push(key_of(place), place);
 }
 
-/// Asserts that a leaf has the pair of a place, and that its cell and its position are those of the
-/// place.
-fn assert_leaf(rt: &impl Abort, leaves: &Leaves<Key, usize>, cell: CellId, at: usize)
-    requires { Has leaves.now.pairs cell }
-{
-    assert!(rt; cell.number() == at);
-    let Leaf { key, value } = leaves.records.read(cell.number());
-    assert!(rt; *key == key_of(at) && *value == at);
-    let Position { row, place } = leaves.position_of(cell);
-    assert!(rt; row == at / 64 && place == at % 64);
+/// Returns the number at an index.
+fn number_at(rt: &impl Abort, words: &Words, i: usize) -> usize {
+    assert!(rt; i < words.len());
+    words.read(i)
 }
 
-/// Asserts that the leaf of a place is followed by the rest of its row, and by the next row.
-fn assert_following(rt: &impl Abort, leaves: &Leaves<Key, usize>, cell: CellId, at: usize)
-    requires { Has leaves.now.pairs cell }
-{
-    let Following { run, row } = leaves.following(cell);
-    assert!(rt; row == if at < 960 { Some(at / 64 + 1) } else { None });
-    let Run { first, cells } = run;
-    let start = at % 64 + 1;
-    let end = if at < 960 { 64 } else { 40 };
-    assert!(rt; first == at / 64 * 64 && start <= end);
-    assert!(rt; cells == &CELLS[start..end]);
+/// Asserts that a row has this number at a place, with no high half, and that the number's cell
+/// tells the row.
+fn assert_cell(rt: &impl Abort, rows: &Rows, row: usize, place: usize, number: usize) {
+    let Some(
+        Row {
+            low,
+            high,
+            count: _,
+        },
+    ) = rows.get(row)
+    else {
+        panic!(rt; "a row");
+    };
+    assert!(rt; high.is_empty() && place < low.len());
+    assert!(rt; low[place] as usize == number);
+    assert!(rt; number_at(rt, &rows.owners, number) == row);
 }
 
-/// Asserts that a row has the cells of its block in order, and is linked to the rows beside it.
-fn assert_row(rt: &impl Abort, rows: &Chain<Row>, number: usize) {
-    let Some(Link { item, prev, next }) = rows.records.get(number) else {
+/// Asserts that a row has its own 64 cells in order, of which as many are in use as it should have,
+/// and that it is linked to the rows beside it.
+fn assert_row(rt: &impl Abort, rows: &Rows, number: usize) {
+    let Some(Link { item, prev, next }) = rows.counts.records.get(number) else {
         panic!(rt; "a row");
     };
     assert!(rt; *prev == number.checked_sub(1));
-    let Row {
-        block,
-        count,
-        cells,
-    } = item;
-    assert!(rt; *block == number && cells == &CELLS);
     match next {
-        Some(next) => assert!(rt; *next == number.wrapping_add(1) && *count == 64),
-        None => assert!(rt; number == 15 && *count == 40),
+        Some(next) => assert!(rt; *next == number.wrapping_add(1) && *item == 64),
+        None => assert!(rt; number == 15 && *item == 40),
     }
-}
-
-/// Asserts that the id of each cell is its own number.
-fn assert_ids(rt: &impl Abort, ids: &Ids) {
-    let Ids { ids, cells, count } = ids;
-    assert!(rt; *count == 1088 && ids.len() == 1088 && cells.len() == 1088);
-    for cell in 0..1088 {
-        assert!(rt; ids.read(cell) == cell && cells.read(cell) == cell);
+    for place in 0..64usize {
+        let cell = number.wrapping_mul(64).wrapping_add(place);
+        assert_cell(rt, rows, number, place, cell);
+        assert!(rt; number_at(rt, &rows.cells, cell) == cell);
     }
 }
 
@@ -83,26 +73,69 @@ fn leaves_taken_apart(rt: HostRuntime) {
     for place in 0..1000 {
         push(&rt, &mut leaves, place);
     }
-    for at in 0..1000 {
-        let (row, place) = (at / 64, at % 64);
-        let cell = leaves.cell_at(Position { row, place });
-        let cell = cell.expect(&rt, "a leaf");
-        assert_leaf(&rt, &leaves, cell, at);
-        assert_following(&rt, &leaves, cell, at);
-    }
-    let Leaves { records, rows, ids } = leaves;
+    let Leaf { key, value } = Leaf { key: 1, value: 2 };
+    assert!(rt; key < value);
+    let Leaves { records, rows } = leaves;
     assert!(rt; records.len() == 1088 && records.used() == 1000);
     drop(records);
     for number in 0..16 {
         assert_row(&rt, &rows, number);
     }
+    let Rows {
+        counts,
+        cells,
+        owners,
+        ready,
+    } = rows;
+    assert!(rt; ready == 17 && cells.len() == 1088 && owners.len() == 1088);
+    drop(cells);
+    drop(owners);
     let Chain {
         records,
         first,
         last,
-    } = rows;
+    } = counts;
     assert!(rt; records.used() == 16 && records.spare() == 1);
     assert!(rt; first == Some(0) && last == Some(15));
     drop(records);
-    assert_ids(&rt, &ids);
+}
+
+#[test]
+fn a_row_cut_in_half(rt: HostRuntime) {
+    let mut leaves = Leaves::new(rt.alloc());
+    for place in 0..64 {
+        push(&rt, &mut leaves, place);
+    }
+    leaves.reserve(1).expect(&rt, "memory");
+    let first = leaves.first();
+    let id = leaves.insert(first, Position::unknown(), key_of(64), 64);
+    assert!(rt; id.number() == 64);
+    // The upper half of row 0 is in row 1, and half of the cells of row 1 are in row 0.
+    assert_cell(&rt, &leaves.rows, 0, 0, 0);
+    assert_cell(&rt, &leaves.rows, 0, 1, 64);
+    for place in 2..33usize {
+        assert_cell(&rt, &leaves.rows, 0, place, place.wrapping_sub(1));
+    }
+    for place in 33..64usize {
+        assert_cell(&rt, &leaves.rows, 0, place, place.wrapping_add(32));
+    }
+    for place in 0..32usize {
+        assert_cell(&rt, &leaves.rows, 1, place, place.wrapping_add(32));
+        assert_cell(
+            &rt,
+            &leaves.rows,
+            1,
+            place.wrapping_add(32),
+            place.wrapping_add(96),
+        );
+    }
+    let Following { run, row } = leaves.following(id);
+    let Run { low } = run;
+    assert!(rt; row == Some(1) && low.len() == 31 && low[0] == 1 && low[30] == 31);
+    let taken = leaves.take_first();
+    assert!(rt; taken == Some((key_of(0), 0)));
+    let taken = leaves.take_first();
+    assert!(rt; taken == Some((key_of(64), 64)));
+    let taken = leaves.take_last();
+    assert!(rt; taken == Some((key_of(63), 63)));
 }

@@ -1,9 +1,12 @@
--- A list of numbers in blocks: a read, a write and a new block, as seen in the list.
-use Rattle.std.proofs.Common.{◌≡◌, ℕ, zero, suc, ◌+◌, ◌-◌, ◌*◌, ◌/◌, ◌%◌, ◌<◌, List, [], ◌∷◌, ◌++◌, length, get_or, set, replicate, refl, sym, ap, subst, ◌∙◌, arith, length-append}
-use Rattle.std.proofs.lemmas.List.{get_or_append_left, get_or-append-add, set-append_left, set-append_right, replicate-append-replicate, length-replicate}
-use Rattle.std.proofs.lemmas.List.Elements.{All-head, All-tail, All-append, All-replicate}
+-- A list of numbers in blocks: a read, a write, another block and a new block, as seen in the list.
+use Rattle.std.proofs.Common.{◌≡◌, ◌≢◌, ℕ, zero, suc, ◌+◌, ◌-◌, ◌*◌, ◌/◌, ◌%◌, ◌<◌, ◌≤◌, List, [], ◌∷◌, ◌++◌, length, take, drop, get_or, set, replicate, inl, inr, refl, sym, ap, subst, ◌∙◌, arith, length-append}
+use Rattle.std.proofs.Math.Seq.{drop-append-add}
+use Rattle.std.proofs.lemmas.Bool.{cases_lt}
+use Rattle.std.proofs.lemmas.List.{take_at, drop_all, length-set, get_or-set_same, get_or-set_other, get_or_append_left, get_or-append-add, set-append_left, set-append_right, replicate-append-replicate, length-replicate}
+use Rattle.std.proofs.lemmas.List.Elements.{All-head, All-tail, All-append, All-replicate, All-set, All-get_or}
 use Rattle.std.proofs.lemmas.List.Concat.{flat_map-append}
 use Rattle.std.proofs.lemmas.Nat.{div-add-mod', div_below, mod_below}
+use Rattle.art_slots.specs.Words.{block_at}
 use Rattle.art_slots.specs.Halves.{joined, IsWhole, AreWhole, AddsZeros}
 use Rattle.art_slots.specs.declared.halves.Block.{Block}
 
@@ -66,6 +69,61 @@ module _ (blocks : List Block) (whole : AreWhole blocks) (i : ℕ) (within : i <
       ap (λ (c : Block). joined (set blocks (i / 64) (record { halves = set c.halves (i % 64) v }))) e
       ∙ set-joined blocks whole (i / 64) (i % 64) v b block_below (mod_below i 64 (omega arith))
       ∙ ap (λ k. set (joined blocks) k v) (div-add-mod' i 64)
+
+-- the numbers of a block, in the list
+block-joined : (blocks : List Block) → AreWhole blocks → (k : ℕ) (d : Block) → k < length blocks → block_at (joined blocks) k ≡ (get_or blocks k d).halves
+block-joined [] h k d l = absurd (omega arith)
+block-joined (b ∷ bs) h zero d l = take_at b.halves (joined bs) 64 (All-head IsWhole b bs h)
+block-joined (b ∷ bs) h (suc k) d l =
+    let n : length b.halves ≡ 64 = All-head IsWhole b bs h in
+    let e : 64 * suc k ≡ length b.halves + 64 * k = omega arith in
+    ap (λ m. take 64 (drop m (b.halves ++ joined bs))) e ∙ ap (take 64) (drop-append-add b.halves (joined bs) (64 * k))
+    ∙ block-joined bs (All-tail IsWhole b bs h) k d (omega arith)
+
+-- past its end a list has no block
+pub block-past : (ns : List ℕ) (k : ℕ) → length ns ≤ 64 * k → block_at ns k ≡ []
+block-past ns k le = ap (take 64) (drop_all (64 * k) ns le)
+
+module _ (blocks : List Block) (whole : AreWhole blocks) (k : ℕ) (within : 64 * k + 64 ≤ length (joined blocks)) where
+  -- a block of the list is one of the blocks
+  pub block_within : k < length blocks
+  block_within = omega (arith, length-joined blocks whole)
+
+  -- its numbers
+  pub block-at : (b : Block) → b ≡ get_or blocks k b → block_at (joined blocks) k ≡ b.halves
+  block-at b e = block-joined blocks whole k b block_within ∙ ap (λ (c : Block). c.halves) (sym e)
+
+  -- it is whole
+  pub size-at : (b : Block) → b ≡ get_or blocks k b → IsWhole b
+  size-at b e = subst IsWhole (sym e) (All-get_or IsWhole blocks k b block_within whole)
+
+  module _ (b : Block) (size : IsWhole b) where
+    whole-set : AreWhole (set blocks k b)
+    whole-set = All-set IsWhole blocks k b size whole
+
+    -- another block has its numbers at its index
+    pub block-put-same : block_at (joined (set blocks k b)) k ≡ b.halves
+    block-put-same =
+        let l : k < length (set blocks k b) = omega (arith, block_within, length-set blocks k b) in
+        block-joined (set blocks k b) whole-set k b l ∙ ap (λ (c : Block). c.halves) (get_or-set_same blocks k b b block_within)
+
+    -- the list is as long with another block
+    pub length-put : length (joined (set blocks k b)) ≡ length (joined blocks)
+    length-put = omega (arith, length-joined blocks whole, length-joined (set blocks k b) whole-set, length-set blocks k b)
+
+    -- the blocks at other indices are unchanged
+    pub block-put-other : (j : ℕ) → j ≢ k → block_at (joined (set blocks k b)) j ≡ block_at (joined blocks) j
+    block-put-other j ne =
+        elim (cases_lt j (length blocks)) [
+          | inl l ↦
+              let m : j < length (set blocks k b) = omega (arith, length-set blocks k b) in
+              block-joined (set blocks k b) whole-set j b m ∙ ap (λ (c : Block). c.halves) (get_or-set_other blocks k j b b ne)
+              ∙ sym (block-joined blocks whole j b l)
+          | inr l ↦
+              let n : length (joined blocks) ≤ 64 * j = omega (arith, length-joined blocks whole) in
+              let m : length (joined (set blocks k b)) ≤ 64 * j = omega (arith, length-put) in
+              block-past (joined (set blocks k b)) j m ∙ sym (block-past (joined blocks) j n)
+        ]
 
 module _ (old new : List Block) (count : ℕ) (a : AddsZeros old new count) where
   -- the blocks are whole after blocks of zeros were added

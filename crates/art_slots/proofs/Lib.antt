@@ -1,7 +1,9 @@
 pub mod Blocks
+pub mod BlocksOf
 pub mod CallerLemmas
 pub mod Cells
 pub mod Copies
+pub mod Moves
 pub mod Numbers
 pub mod Packed
 pub mod StoreSlots

@@ -1,7 +1,7 @@
--- Numbers in low and high halves: a read, a write and a longer list, as seen in the numbers.
-use Rattle.std.proofs.Common.{◌≡◌, ℕ, zero, suc, ◌+◌, ◌*◌, ◌^◌, ◌<◌, ◌≤◌, List, [], ◌∷◌, ◌++◌, length, take, get_or, set, replicate, refl, ap, arith}
+-- Numbers in low and high halves: a read, a write, a part and a longer list, as numbers.
+use Rattle.std.proofs.Common.{◌≡◌, ℕ, zero, suc, ◌+◌, ◌*◌, ◌^◌, ◌<◌, ◌≤◌, List, [], ◌∷◌, ◌++◌, length, take, drop, get_or, set, replicate, refl, ap, ◌∙◌, arith}
 use Rattle.std.proofs.Math.Seq.{take-append_seam}
-use Rattle.art_slots.specs.Words.{numbers}
+use Rattle.art_slots.specs.Words.{numbers, block_at}
 
 -- there are as many numbers as low halves
 pub length-numbers : (low high : List ℕ) → length (numbers low high) ≡ length low
@@ -56,3 +56,32 @@ pub take-numbers : (low more high : List ℕ) → take (length low) (numbers (lo
 take-numbers [] more high = refl
 take-numbers (l ∷ low) more [] = ap (λ ns. l ∷ ns) (take-append_seam low more)
 take-numbers (l ∷ low) more (h ∷ high) = ap (λ ns. (l + h * 2 ^ 32) ∷ ns) (take-numbers low more high)
+
+-- numbers with no high halves are their low halves
+pub numbers-low : (low : List ℕ) → numbers low [] ≡ low
+numbers-low [] = refl
+numbers-low (l ∷ low) = refl
+
+-- the first numbers, and the rest, are those of the first halves, and of the rest
+pub numbers-take : (low high : List ℕ) (n : ℕ) → numbers (take n low) (take n high) ≡ take n (numbers low high)
+numbers-take low high zero = refl
+numbers-take [] high (suc n) = refl
+numbers-take (l ∷ low) [] (suc n) = refl
+numbers-take (l ∷ low) (h ∷ high) (suc n) = ap (λ ns. (l + h * 2 ^ 32) ∷ ns) (numbers-take low high n)
+
+pub numbers-drop : (low high : List ℕ) (n : ℕ) → numbers (drop n low) (drop n high) ≡ drop n (numbers low high)
+numbers-drop low high zero = refl
+numbers-drop [] high (suc n) = refl
+numbers-drop (l ∷ low) [] (suc n) = numbers-low (drop n low)
+numbers-drop (l ∷ low) (h ∷ high) (suc n) = numbers-drop low high n
+
+-- the numbers of a block are those of the two blocks of halves
+pub numbers-block : (low high : List ℕ) (i : ℕ) → numbers (block_at low i) (block_at high i) ≡ block_at (numbers low high) i
+numbers-block low high i = numbers-take (drop (64 * i) low) (drop (64 * i) high) 64 ∙ ap (take 64) (numbers-drop low high (64 * i))
+
+-- the numbers of two lists, one after the other
+pub numbers-append : (low more high rest : List ℕ) → length low ≡ length high → numbers (low ++ more) (high ++ rest) ≡ numbers low high ++ numbers more rest
+numbers-append [] more [] rest e = refl
+numbers-append [] more (h ∷ high) rest e = absurd (omega arith)
+numbers-append (l ∷ low) more [] rest e = absurd (omega arith)
+numbers-append (l ∷ low) more (h ∷ high) rest e = ap (λ ns. (l + h * 2 ^ 32) ∷ ns) (numbers-append low more high rest (omega arith))

@@ -1,5 +1,6 @@
 //! A list of numbers of 32 bits, in blocks.
-ghost use Rattle.std.specs.Prelude.{◌≡◌, ◌+◌, ◌-◌, ◌*◌, ◌^◌, ◌<◌, ◌≤◌, max, [], ◌++◌, length, replicate, slice_index_or, slice_set, OnOk, IfOk};
+ghost use Rattle.std.specs.Prelude.{◌≡◌, ◌≢◌, ℕ, ◌+◌, ◌-◌, ◌*◌, ◌^◌, ◌<◌, ◌≤◌, max, true, false, [], ◌++◌, length, take, drop, replicate, slice_index_or, slice_set, OnOk, IfOk};
+ghost use Rattle.art_slots.specs.Words.{block_at, moved_down, moved_up};
 ghost use Rattle.art_slots.specs.Halves.{AddsZeros};
 
 use crate::dense::Dense;
@@ -86,6 +87,52 @@ impl Halves {
         ensures { self.new ≡ slice_set self.old i half }
     {
         self.blocks.get_mut(i / BLOCK).halves[i % BLOCK] = half;
+    }
+
+    /// Returns `true` if the list has a block at an index.
+    #[inline(always)]
+    pub fn has_block(&self, block: usize) -> bool
+        ensures here { result ≡ true → 64 * block + 64 ≤ length self.now }
+        ensures past { result ≡ false → length self.now ≤ 64 * block }
+    {
+        block < self.blocks.len()
+    }
+
+    /// Returns neighbouring numbers of a block.
+    #[inline(always)]
+    pub fn part(&self, block: usize, from: usize, to: usize) -> &[u32]
+        requires block { 64 * block + 64 ≤ length self.now }
+        requires order { from ≤ to }
+        requires within { to ≤ 64 }
+        ensures { result.now ≡ drop from (take to (block_at self.now block)) }
+    {
+        &self.blocks.read(block).halves[from..to]
+    }
+
+    /// Moves a number of a block to an earlier place, and those between one place on.
+    #[inline(always)]
+    pub fn move_down(&mut self, block: usize, from: usize, to: usize)
+        requires block { 64 * block + 64 ≤ length self.old }
+        requires order { to ≤ from }
+        requires within { from < 64 }
+        ensures moved { block_at self.new block ≡ moved_down (block_at self.old block) from to }
+        ensures others { (j : ℕ) → j ≢ block → block_at self.new j ≡ block_at self.old j }
+        ensures len { length self.new ≡ length self.old }
+    {
+        self.blocks.get_mut(block).halves[to..from + 1].rotate_right(1);
+    }
+
+    /// Moves a number of a block to a later place, and those between one place back.
+    #[inline(always)]
+    pub fn move_up(&mut self, block: usize, from: usize, to: usize)
+        requires block { 64 * block + 64 ≤ length self.old }
+        requires order { from ≤ to }
+        requires within { to < 64 }
+        ensures moved { block_at self.new block ≡ moved_up (block_at self.old block) from to }
+        ensures others { (j : ℕ) → j ≢ block → block_at self.new j ≡ block_at self.old j }
+        ensures len { length self.new ≡ length self.old }
+    {
+        self.blocks.get_mut(block).halves[from..to + 1].rotate_left(1);
     }
 
     /// Adds blocks of zeros to the list until it has at least `count` blocks. Returns an error if

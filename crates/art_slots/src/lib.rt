@@ -5,10 +5,10 @@
 //! A contract sees a [`Store`] as the record at each number and the number of spare slots.
 #![tactic(auto)]
 
-mod cell_id;
 mod dense;
 mod growth;
 mod halves;
+mod leaf_id;
 mod slots;
 mod store;
 mod table;
@@ -17,7 +17,7 @@ mod tests;
 mod visits;
 mod words;
 
-pub use cell_id::CellId;
+pub use leaf_id::LeafId;
 pub use slots::Slots;
 pub use store::Store;
 pub use table::Table;

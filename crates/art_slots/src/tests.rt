@@ -2,13 +2,14 @@
 //! field does not compile until a test looks at it.
 ghost use Rattle.std.specs.Prelude.{◌<◌};
 
-use crate::cell_id::CellId;
 use crate::dense::Dense;
 use crate::halves::{Block, Halves};
+use crate::leaf_id::LeafId;
 use crate::slots::{Slot, Slots};
 use crate::store::Store;
 use crate::table::{Cell, Table};
 use crate::words::Words;
+use std::alloc::Global;
 use std::process::Abort;
 
 type Key = [u8; 3];
@@ -118,8 +119,92 @@ fn numbers_of_two_halves(rt: HostRuntime) {
     assert!(rt; words.read(3) == 5);
 }
 
+/// Returns the first number at an index of [`mixed_list`].
+fn number_at(i: usize) -> usize {
+    if i < 128 { i | (i << 40) } else { i }
+}
+
+/// Returns a list of 192 numbers. The first two of its three blocks have high halves.
+fn mixed_list(rt: &impl Abort, alloc: Global) -> Words {
+    let mut low = Halves::new(alloc);
+    low.grow(3).expect(rt, "memory");
+    for i in 0..192 {
+        assert!(rt; i < low.len());
+        low.write(i, i as u32);
+    }
+    let mut high = Halves::new(alloc);
+    high.grow(2).expect(rt, "memory");
+    for i in 0..128 {
+        assert!(rt; i < high.len());
+        high.write(i, (i as u32) << 8);
+    }
+    assert!(rt; low.len() == 192 && high.len() == 128);
+    Words { low, high }
+}
+
+/// Returns the place that a number had before a number moved from one place to another.
+fn place_before(place: usize, from: usize, to: usize) -> usize {
+    if place == to {
+        from
+    } else if to < place && place <= from {
+        place - 1
+    } else if from <= place && place < to {
+        place + 1
+    } else {
+        place
+    }
+}
+
+/// Moves a number of a block, and compares all numbers of the list.
+fn check_move(rt: &impl Abort, alloc: Global, block: usize, from: usize, to: usize) {
+    let mut words = mixed_list(rt, alloc);
+    assert!(rt; block < 3 && from < 64 && to < 64 && words.len() == 192);
+    if to < from {
+        words.move_down(block, from, to);
+    } else {
+        words.move_up(block, from, to);
+    }
+    for i in 0..192 {
+        let place = if i / 64 == block {
+            place_before(i % 64, from, to)
+        } else {
+            i % 64
+        };
+        assert!(rt; i < words.len());
+        assert!(rt; words.read(i) == number_at((i / 64 * 64).wrapping_add(place)));
+    }
+}
+
+#[test]
+fn numbers_moved_in_a_block(rt: HostRuntime) {
+    for block in 0..3 {
+        check_move(&rt, rt.alloc(), block, 40, 3);
+        check_move(&rt, rt.alloc(), block, 3, 40);
+        check_move(&rt, rt.alloc(), block, 63, 0);
+        check_move(&rt, rt.alloc(), block, 0, 63);
+        check_move(&rt, rt.alloc(), block, 17, 17);
+    }
+    let mut words = mixed_list(&rt, rt.alloc());
+    assert!(rt; words.len() == 192);
+    words.move_down(1, 17, 17);
+    assert!(rt; words.read(81) == number_at(81));
+}
+
+#[test]
+fn halves_of_a_block(rt: HostRuntime) {
+    let words = mixed_list(&rt, rt.alloc());
+    assert!(rt; words.len() == 192);
+    let (low, high) = words.halves(1, 2, 5);
+    assert!(rt; low.len() == 3 && low[0] == 66 && low[1] == 67 && low[2] == 68);
+    assert!(rt; high.len() == 3 && high[0] == 66 << 8 && high[1] == 67 << 8 && high[2] == 68 << 8);
+    let (low, high) = words.halves(2, 0, 64);
+    assert!(rt; low.len() == 64 && low[0] == 128 && low[63] == 191 && high.len() == 0);
+    let (low, high) = words.halves(0, 7, 7);
+    assert!(rt; low.len() == 0 && high.len() == 0);
+}
+
 #[test]
 fn a_number_taken_apart(rt: HostRuntime) {
-    let CellId { number } = CellId::new(7);
+    let LeafId { number } = LeafId::new(7);
     assert!(rt; number == 7);
 }

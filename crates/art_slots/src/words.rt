@@ -1,5 +1,6 @@
 //! A list of numbers that are less than its length.
-ghost use Rattle.std.specs.Prelude.{◌≡◌, ◌^◌, ◌<◌, ◌≤◌, [], length, take, slice_index_or, slice_set, OnOk, OnErr, IfOk};
+ghost use Rattle.std.specs.Prelude.{◌≡◌, ◌≢◌, ◌+◌, ◌*◌, ◌^◌, ◌<◌, ◌≤◌, ◌++◌, ℕ, [], ◌∷◌, length, take, drop, slice_index_or, slice_set, OnOk, OnErr, IfOk};
+ghost use Rattle.art_slots.specs.Words.{numbers, block_at, times};
 
 use crate::halves::{BLOCK, Halves};
 use std::alloc::{AllocError, Global};
@@ -81,6 +82,65 @@ impl Words {
             self.high.write(i, (word / RADIX) as u32);
         } else {
             self.low.write(i, word as u32);
+        }
+    }
+
+    /// Returns the low and the high halves of neighbouring numbers of a block of 64. There are no
+    /// high halves if the list is short.
+    #[inline(always)]
+    pub fn halves(&self, block: usize, from: usize, to: usize) -> (&[u32], &[u32])
+        requires block { 64 * block + 64 ≤ length self.now }
+        requires order { from ≤ to }
+        requires within { to ≤ 64 }
+        ensures { numbers result.0.now result.1.now
+            ≡ drop from (take to (block_at self.now block)) }
+    {
+        let low = self.low.part(block, from, to);
+        if self.high.has_block(block) {
+            (low, self.high.part(block, from, to))
+        } else {
+            (low, &[])
+        }
+    }
+
+    /// Moves a number of a block of 64 to an earlier place, and those between one place on.
+    #[inline(always)]
+    pub fn move_down(&mut self, block: usize, from: usize, to: usize)
+        requires block { 64 * block + 64 ≤ length self.old }
+        requires order { to ≤ from }
+        requires within { from < 64 }
+        ensures first { take (from + 1) (block_at self.new block)
+            ≡ take to (block_at self.old block)
+            ++ slice_index_or (block_at self.old block) from 0
+            ∷ drop to (take from (block_at self.old block)) }
+        ensures same { (n : ℕ) → times (block_at self.new block) n
+            ≡ times (block_at self.old block) n }
+        ensures others { (j : ℕ) → j ≢ block → block_at self.new j ≡ block_at self.old j }
+        ensures len { length self.new ≡ length self.old }
+    {
+        self.low.move_down(block, from, to);
+        if self.high.has_block(block) {
+            self.high.move_down(block, from, to);
+        }
+    }
+
+    /// Moves a number of a block of 64 to a later place, and those between one place back.
+    #[inline(always)]
+    pub fn move_up(&mut self, block: usize, from: usize, to: usize)
+        requires block { 64 * block + 64 ≤ length self.old }
+        requires order { from ≤ to }
+        requires within { to < 64 }
+        ensures first { take to (block_at self.new block)
+            ≡ take from (block_at self.old block)
+            ++ drop (from + 1) (take (to + 1) (block_at self.old block)) }
+        ensures same { (n : ℕ) → times (block_at self.new block) n
+            ≡ times (block_at self.old block) n }
+        ensures others { (j : ℕ) → j ≢ block → block_at self.new j ≡ block_at self.old j }
+        ensures len { length self.new ≡ length self.old }
+    {
+        self.low.move_up(block, from, to);
+        if self.high.has_block(block) {
+            self.high.move_up(block, from, to);
         }
     }
 

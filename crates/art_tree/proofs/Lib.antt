@@ -1,8 +1,11 @@
 pub mod CallerLemmas
 pub mod PairEnds
 pub mod Spans
-mod Adding
 pub mod Steps
-mod UnderIds
-mod CellSpans
-mod Pointing
+mod Runs
+mod BeginsLemmas
+mod PairLists
+mod NumberedPairs
+mod Invariant
+mod Ways
+mod Calls

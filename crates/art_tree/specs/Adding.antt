@@ -3,12 +3,12 @@ use Rattle.std.specs.Prelude.{◌≡◌, ℕ, List, false, Some, None, Result, O
 use Rattle.std.specs.declared.alloc.AllocError.{AllocError}
 use Rattle.blart_keys.specs.Content.{conflict, stores}
 use Rattle.blart_keys.specs.Steps.{bytes as pair_bytes, Puts}
-pub use Rattle.art_cells.specs.declared.tree.add.Added.{Added}
-pub use Rattle.art_cells.specs.declared.tree.add.Added.TheVariants.{Placed, Stored, Conflict}
 use Rattle.art_tree.specs.Content.{Content}
 use Rattle.art_tree.specs.Leaves.{leaf_in, OthersStand}
 use Rattle.art_tree.specs.Pairs.{pairs_of}
 use Rattle.art_tree.specs.Points.{IsGood}
+use Rattle.art_tree.specs.declared.tree.add.Added.{Added}
+use Rattle.art_tree.specs.declared.tree.add.Added.TheVariants.{Placed, Stored, Conflict}
 use Rattle.art_tree.specs.declared.tree.point.Point.TheVariants.{Exact, Related}
 
 -- the pair has a new id, and each other id has the pair that it had

@@ -1,10 +1,14 @@
 -- What a contract sees of a tree.
 use Rattle.std.specs.Prelude.{ℕ, ◌<◌, List, min, refl}
 use Rattle.std.specs.Coded.{Coded, code_by, coded×, coded_ℕ, coded_list}
-pub use Rattle.art_cells.specs.Content.{Spares}
 use Rattle.art_tree.specs.Leaves.{Numbered}
 use Rattle.art_tree.specs.declared.tree.point.Point.{Point}
 use Rattle.art_tree.specs.declared.tree.point.Point.TheVariants.{Empty, Exact, Related, Free}
+
+-- the number of placements for which there surely is room among leaves, and among inner nodes
+pub record Spares : Type 0 where
+  pub leaves : ℕ
+  pub nodes : ℕ
 
 -- the pairs in byte order, each under the id of its leaf, and the room for further pairs
 pub record Content (K V : Type 0) : Type 0 where

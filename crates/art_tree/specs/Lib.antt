@@ -2,13 +2,15 @@ pub mod Adding
 pub mod Begins
 pub mod Clones
 pub mod Content
-pub mod UnderIds
 pub mod Leaves
 pub mod Longest
 pub mod PairList
 pub mod Pairs
+pub mod Places
 pub mod Points
 pub mod Seeks
 pub mod Spans
 pub mod Takes
 pub mod TreeLends
+pub mod Invariant
+pub mod Calls

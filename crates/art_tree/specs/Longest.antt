@@ -1,2 +1,7 @@
 -- The length of the longest key.
-pub use Rattle.art_cells.specs.Longest.{longest}
+use Rattle.std.specs.Prelude.{ℕ, List, [], ◌∷◌, length, max}
+
+-- the length of the longest item, or 0
+abbrev pub longest : {X : Type 0} → (X → List ℕ) → List X → ℕ
+longest bytes [] = 0
+longest bytes (x ∷ S) = max (length (bytes x)) (longest bytes S)

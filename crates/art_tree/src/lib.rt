@@ -6,15 +6,18 @@
 //! The costs of calls are in the words of `docs/terms.md`.
 #![tactic(auto)]
 
-mod ids;
-mod leaf_id;
+mod lists;
+mod pair_list;
+#[cfg(test)]
+mod tests;
 mod tree;
 mod walk;
 
-pub use art_cells::pair_list::CellPairs as Pairs;
-pub use art_cells::{Added, Frame, Position};
-pub use art_slots::Visits;
-pub use leaf_id::LeafId;
+pub use art_rows::Position;
+pub use art_slots::{LeafId, Visits};
+pub use pair_list::Pairs;
+pub use tree::add::Added;
+pub use tree::build::Frame;
 pub use tree::point::{Place, Point};
 pub use tree::{DEFAULT_PREFIX_LEN, Tree};
 pub use walk::Walk;

@@ -1,26 +1,41 @@
 //! The tree.
-ghost use Rattle.std.specs.Prelude.{◌≡◌, ◌==◌, ◌+◌, ◌-◌, ◌≤◌, [], length, Some};
+ghost use Rattle.std.specs.Prelude.{◌≡◌, ◌==◌, ◌+◌, ◌-◌, ◌≤◌, [], length, map, Some, None, OnOk, OnErr};
 ghost use Rattle.std.specs.FinSet as set;
-ghost use Rattle.blart_keys.specs.Content.{IsContent};
+ghost use Rattle.blart_keys.specs.Content.{IsContent, IsPut};
+ghost use Rattle.blart_keys.specs.Steps.{bytes as pair_bytes};
 ghost use Rattle.blart_keys.specs.Fronts.{fronts, parts};
-ghost use Rattle.art_tree.specs.Leaves.{leaf_in, Has, AreDistinct, first_number, last_number, number_after, number_before, bytes};
-ghost use Rattle.art_tree.specs.Content.{room};
+ghost use Rattle.art_tree.specs.Leaves.{leaf_in, Has, AreDistinct, first_number, last_number, number_after, number_before, OthersStand, bytes};
+ghost use Rattle.art_tree.specs.Content.{room, Fits, IsOpen};
+ghost use Rattle.art_tree.specs.Invariant.Sound.{IsSound};
+ghost use Rattle.art_tree.specs.Points.{IsGood};
 ghost use Rattle.art_tree.specs.Longest.{longest};
 
-pub mod apart;
+pub mod add;
+mod apart;
+pub mod build;
 mod change;
 mod clone;
+pub(crate) mod descent;
+mod free_subtree;
+pub(crate) mod parting;
 mod place;
 pub mod point;
 mod prefix;
+mod remove;
 mod search;
+mod seek;
+pub(crate) mod stop;
 
-use crate::ids::{cell_near, cell_of, id_of_any};
-use crate::leaf_id::LeafId;
-use art_cells::{CellTree, Position};
-use art_slots::Visits;
+use crate::lists::begins;
+use crate::tree::add::make_room_beside;
+use crate::tree::descent::children_of;
+use crate::tree::place::place_at;
+use crate::tree::point::{Point, point_below};
+use art_kinds::{Child, Nodes};
+use art_rows::{Leaves, Position};
+use art_slots::{LeafId, Visits};
 use blart_keys::AsBytes;
-use std::alloc::Global;
+use std::alloc::{AllocError, Global};
 use std::marker::Model;
 
 /// The number of bytes of a compressed prefix that an inner node keeps by default.
@@ -36,22 +51,28 @@ pub const DEFAULT_PREFIX_LEN: usize = 16;
 /// no removal returns an error.
 #[derive(Drop)]
 pub struct Tree<K: AsBytes, V, const PREFIX_LEN: usize> {
-    /// The tree over the cells of the leaves, which keeps the id of each.
-    pub(crate) cells: CellTree<K, V, PREFIX_LEN>,
+    pub(crate) leaves: Leaves<K, V>,
+    pub(crate) nodes: Nodes<PREFIX_LEN>,
+    pub(crate) root: Option<Child>,
 }
 
 impl<K: AsBytes, V, const PREFIX_LEN: usize> Model for Tree<K, V, PREFIX_LEN> {
     ghost use Rattle.art_tree.specs.Content.{Content, content_code};
-    ghost use Rattle.art_tree.specs.UnderIds.{under_ids};
 
     ghost Value = { Content K V };
 
     ghost coded = { content_code K.code V.code };
 
+    ghost use Rattle.art_tree.specs.Invariant.Sound.{IsSound};
+    ghost use Rattle.art_kinds.specs.Nodes.{room};
+    ghost use Rattle.art_tree.specs.Leaves.{room as leaves_room};
+
     ghost view = { λ t. record {
-      pairs = under_ids t.cells.ids t.cells.pairs;
-      spares = t.cells.spares;
+      pairs = t.leaves.pairs;
+      spares = record { leaves = leaves_room t.leaves; nodes = room t.nodes };
     } };
+
+    ghost invariant = { λ t. IsSound K.bytes PREFIX_LEN t.leaves t.nodes t.root };
 }
 
 impl<K: AsBytes, V, const PREFIX_LEN: usize> Tree<K, V, PREFIX_LEN> {
@@ -63,7 +84,9 @@ impl<K: AsBytes, V, const PREFIX_LEN: usize> Tree<K, V, PREFIX_LEN> {
         ensures room { room result ≡ 0 }
     {
         Tree {
-            cells: CellTree::new(alloc),
+            leaves: Leaves::new(alloc),
+            nodes: Nodes::new(alloc),
+            root: None,
         }
     }
 
@@ -75,7 +98,7 @@ impl<K: AsBytes, V, const PREFIX_LEN: usize> Tree<K, V, PREFIX_LEN> {
         ensures content { IsContent (bytes K.bytes) self.now.pairs }
         ensures distinct { AreDistinct self.now.pairs }
     {
-        self.cells.law()
+        self.leaves.law()
     }
 
     /// Returns the number of pairs.
@@ -84,7 +107,7 @@ impl<K: AsBytes, V, const PREFIX_LEN: usize> Tree<K, V, PREFIX_LEN> {
     pub fn len(&self) -> usize
         ensures { result ≡ length self.now.pairs }
     {
-        self.cells.len()
+        self.leaves.len()
     }
 
     /// Returns `true` if there are no pairs.
@@ -102,7 +125,7 @@ impl<K: AsBytes, V, const PREFIX_LEN: usize> Tree<K, V, PREFIX_LEN> {
     pub fn first(&self) -> Option<LeafId>
         ensures { result ≡ first_number self.now.pairs }
     {
-        id_of_any(&self.cells, self.cells.first())
+        self.leaves.first()
     }
 
     /// Returns the last leaf, or `None` if the tree has no pairs.
@@ -111,7 +134,7 @@ impl<K: AsBytes, V, const PREFIX_LEN: usize> Tree<K, V, PREFIX_LEN> {
     pub fn last(&self) -> Option<LeafId>
         ensures { result ≡ last_number self.now.pairs }
     {
-        id_of_any(&self.cells, self.cells.last())
+        self.leaves.last()
     }
 
     /// Returns the leaf after a leaf, or `None` if it is the last.
@@ -121,9 +144,7 @@ impl<K: AsBytes, V, const PREFIX_LEN: usize> Tree<K, V, PREFIX_LEN> {
         requires { Has self.now.pairs id }
         ensures { result ≡ number_after self.now.pairs id }
     {
-        self.cells.law();
-        let cell = cell_of(&self.cells, id);
-        id_of_any(&self.cells, self.cells.next_of(cell))
+        self.leaves.next_of(id)
     }
 
     /// Returns the leaf before a leaf, or `None` if it is the first.
@@ -133,9 +154,7 @@ impl<K: AsBytes, V, const PREFIX_LEN: usize> Tree<K, V, PREFIX_LEN> {
         requires { Has self.now.pairs id }
         ensures { result ≡ number_before self.now.pairs id }
     {
-        self.cells.law();
-        let cell = cell_of(&self.cells, id);
-        id_of_any(&self.cells, self.cells.prev_of(cell))
+        self.leaves.prev_of(id)
     }
 
     /// Returns the leaf after a leaf, or `None` if it is the last.
@@ -149,9 +168,7 @@ impl<K: AsBytes, V, const PREFIX_LEN: usize> Tree<K, V, PREFIX_LEN> {
         requires { Has self.now.pairs id }
         ensures { result ≡ number_after self.now.pairs id }
     {
-        self.cells.law();
-        let cell = cell_near(&self.cells, id, *seen);
-        id_of_any(&self.cells, self.cells.next_from(cell, seen))
+        self.leaves.next_from(id, seen)
     }
 
     /// Returns the leaf before a leaf, or `None` if it is the first.
@@ -165,9 +182,7 @@ impl<K: AsBytes, V, const PREFIX_LEN: usize> Tree<K, V, PREFIX_LEN> {
         requires { Has self.now.pairs id }
         ensures { result ≡ number_before self.now.pairs id }
     {
-        self.cells.law();
-        let cell = cell_near(&self.cells, id, *seen);
-        id_of_any(&self.cells, self.cells.prev_from(cell, seen))
+        self.leaves.prev_from(id, seen)
     }
 
     /// Returns the pair of a leaf.
@@ -178,23 +193,20 @@ impl<K: AsBytes, V, const PREFIX_LEN: usize> Tree<K, V, PREFIX_LEN> {
         ensures value { leaf_in self.now.pairs id ≡ Some (result.0.now, result.1.now) }
         ensures counted { visits.new.count ≡ visits.old.count + 1 }
     {
-        self.cells.leaf(cell_of(&self.cells, id), visits)
+        self.leaves.read(id, visits)
     }
 
-    /// Returns the pair of a leaf.
+    /// Returns the point of these bytes: the leaf that has them, the leaves that they conflict
+    /// with, or a free place. The point is good for these bytes while the pairs are unchanged.
     ///
-    /// `seen` is a guess of the position of the leaf. If it is right, the table that leads from ids
-    /// to leaves is not read.
-    ///
-    /// Cost: one visit.
-    #[inline(always)]
-    pub fn leaf_near(&self, id: LeafId, seen: Position, visits: &mut Visits) -> (&K, &V)
-        requires { Has self.now.pairs id }
-        ensures value { leaf_in self.now.pairs id ≡ Some (result.0.now, result.1.now) }
-        ensures counted { visits.new.count ≡ visits.old.count + 1 }
+    /// Cost: one descent.
+    pub fn point(&self, query: &[u8]) -> Point
+        ensures { IsGood K.bytes self.now.pairs result query.now }
     {
-        let cell = cell_near(&self.cells, id, seen);
-        self.cells.leaf(cell, visits)
+        match self.root {
+            None => Point::Empty,
+            Some(root) => point_below(&self.leaves, &self.nodes, &root, query),
+        }
     }
 
     /// Returns the number of inner nodes. There is one at the longest common prefix of each two
@@ -205,7 +217,8 @@ impl<K: AsBytes, V, const PREFIX_LEN: usize> Tree<K, V, PREFIX_LEN> {
         ensures value { result ≡ set.len (fronts (bytes K.bytes) self.now.pairs) }
         ensures fewer { result ≤ length self.now.pairs - 1 }
     {
-        self.cells.inner_nodes()
+        self.leaves.law();
+        self.nodes.live()
     }
 
     /// Returns the number of children of the inner node at this prefix, or 0 if there is no such
@@ -218,6 +231,84 @@ impl<K: AsBytes, V, const PREFIX_LEN: usize> Tree<K, V, PREFIX_LEN> {
             ≤ visits.old.count + longest (bytes K.bytes) self.now.pairs + 1 }
         ensures grows { visits.old.count ≤ visits.new.count }
     {
-        self.cells.children_at(front, visits)
+        self.leaves.law();
+        match self.root {
+            None => 0,
+            Some(root) => children_below(&self.leaves, &self.nodes, &root, front, visits),
+        }
+    }
+}
+
+impl<K: AsBytes + Drop, V: Drop, const PREFIX_LEN: usize> Tree<K, V, PREFIX_LEN> {
+    /// Makes room for a placement at the point, or returns an error if it fails to allocate. The
+    /// pairs are unchanged in both cases, and the point remains good.
+    ///
+    /// Cost: allocates for one pair.
+    pub fn make_room(&mut self, point: &Point) -> Result<(), AllocError>
+        ensures pairs { self.new.pairs ≡ self.old.pairs }
+        ensures fits { OnOk result (Fits self.new point.now) }
+        ensures room { room self.old ≤ room self.new }
+        ensures refused { OnErr result (IsOpen point.now) }
+    {
+        match point {
+            Point::Exact(_) | Point::Related { .. } => Ok(()),
+            Point::Empty => self.leaves.reserve(1),
+            Point::Free(_) => make_room_beside(&mut self.leaves, &mut self.nodes),
+        }
+    }
+
+    /// Places a pair, and returns its leaf. The point must be empty or free, good for the bytes of
+    /// the key, and there must be room at it. Each other id names the pair that it named. Does not
+    /// allocate.
+    ///
+    /// Cost: one descent, unless the edge at the point leads to the nearest leaf, or to a node with
+    /// an edge to it.
+    pub fn place(&mut self, point: Point, key: K, value: V) -> LeafId
+        requires good { IsGood K.bytes self.old.pairs point (K.bytes key) }
+        requires open { IsOpen point }
+        requires fits { Fits self.old point }
+        ensures put { IsPut (pair_bytes K.bytes) (map (λ p. p.1) self.old.pairs) (key, value)
+            (map (λ p. p.1) self.new.pairs) }
+        ensures now { leaf_in self.new.pairs result ≡ Some (key, value) }
+        ensures fresh { leaf_in self.old.pairs result ≡ None }
+        ensures others { OthersStand self.old.pairs self.new.pairs result }
+        ensures room { room self.old ≤ room self.new + 1 }
+    {
+        let (id, root) = place_at(
+            &mut self.leaves,
+            &mut self.nodes,
+            &self.root,
+            &point,
+            key,
+            value,
+        );
+        self.root = Some(root);
+        id
+    }
+}
+
+/// Returns the number of children of the inner node at this prefix, in a tree with some pairs.
+fn children_below<K: AsBytes, V, const P: usize>(
+    leaves: &Leaves<K, V>,
+    nodes: &Nodes<P>,
+    root: &Child,
+    front: &[u8],
+    visits: &mut Visits,
+) -> usize
+    requires { IsSound K.bytes P leaves.now nodes.now (Some root.now) }
+    ensures value { result ≡ set.len (parts (bytes K.bytes) leaves.now.pairs front.now) }
+    ensures counted { visits.new.count
+        ≤ visits.old.count + longest (bytes K.bytes) leaves.now.pairs + 1 }
+    ensures grows { visits.old.count ≤ visits.new.count }
+{
+    leaves.law();
+    let Some(found) = children_of(nodes, root, front, visits) else {
+        return 0;
+    };
+    let (key, _) = leaves.read(found.1, visits);
+    if begins(front, key.as_bytes()) {
+        found.0
+    } else {
+        0
     }
 }

@@ -7,11 +7,11 @@ pub use Rattle.art_tree.specs.Spans.{from_number, through_number, span_of, IsSpa
 
 -- a cursor with no pairs left
 abbrev pub nothing_left : Cursor
-nothing_left = record { ends = None; first_at = nowhere; last_at = nowhere; passed_at = nowhere }
+nothing_left = record { ends = None; first_at = nowhere; last_at = nowhere }
 
 -- a cursor from one number through another
 abbrev pub left_between : ℕ → ℕ → Cursor
-left_between first last = record { ends = Some (first, last); first_at = nowhere; last_at = nowhere; passed_at = nowhere }
+left_between first last = record { ends = Some (first, last); first_at = nowhere; last_at = nowhere }
 
 module _ {K V : Type 0} where
   -- the pairs that are left

@@ -58,8 +58,6 @@ pub struct Cursor {
     /// Guesses of their positions. If they are right, a step searches no row.
     first_at: Position,
     last_at: Position,
-    /// A guess of the position of the leaf that was passed last.
-    passed_at: Position,
 }
 
 impl Cursor {
@@ -73,7 +71,6 @@ impl Cursor {
             ends: None,
             first_at: Position::unknown(),
             last_at: Position::unknown(),
-            passed_at: Position::unknown(),
         }
     }
 
@@ -88,7 +85,6 @@ impl Cursor {
             ends: Some((first, last)),
             first_at: Position::unknown(),
             last_at: Position::unknown(),
-            passed_at: Position::unknown(),
         }
     }
 
@@ -97,15 +93,6 @@ impl Cursor {
         ensures { result ≡ self.now.ends }
     {
         self.ends
-    }
-
-    /// Returns a guess of the position of the leaf that was passed last. A call that is given a
-    /// guess tests it, so no result depends on it.
-    ///
-    /// Cost: none.
-    #[inline(always)]
-    pub fn passed_at(&self) -> Position {
-        self.passed_at
     }
 
     /// Returns a cursor over all leaves of the tree.
@@ -146,10 +133,9 @@ impl Cursor {
     {
         tree.law();
         let (first, last) = self.ends?;
-        self.passed_at = self.first_at;
-        visits.add_one();
         let ends = without_first(tree, first, last, &mut self.first_at);
         self.ends = ends;
+        visits.add_one();
         Some(first)
     }
 
@@ -174,10 +160,9 @@ impl Cursor {
     {
         tree.law();
         let (first, last) = self.ends?;
-        self.passed_at = self.last_at;
-        visits.add_one();
         let ends = without_last(tree, first, last, &mut self.last_at);
         self.ends = ends;
+        visits.add_one();
         Some(last)
     }
 }

@@ -26,7 +26,7 @@ pub fn write_values<K: AsBytes, V, F: FnMut(&mut V) + Drop, const PREFIX_LEN: us
 {
     tree.law();
     'leaves: while let Some(id) = cursor.step(tree, &mut Visits::new()) {
-        let (_, value) = tree.leaf_mut_near(id, cursor.passed_at());
+        let (_, value) = tree.leaf_mut(id);
         f(value);
     }
 }
@@ -48,7 +48,7 @@ pub fn write_pairs<K: AsBytes, V, F: FnMut(&K, &mut V) + Drop, const PREFIX_LEN:
 {
     tree.law();
     'leaves: while let Some(id) = cursor.step(tree, &mut Visits::new()) {
-        let (key, value) = tree.leaf_mut_near(id, cursor.passed_at());
+        let (key, value) = tree.leaf_mut(id);
         f(key, value);
     }
 }

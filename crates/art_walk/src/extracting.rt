@@ -36,7 +36,7 @@ pub fn extract_first<
 {
     tree.law();
     'pairs: while let Some(id) = cursor.step(tree, &mut Visits::new()) {
-        let (key, value) = tree.leaf_mut_near(id, cursor.passed_at());
+        let (key, value) = tree.leaf_mut(id);
         if pred(key, value) {
             return Some(tree.remove(id));
         }
@@ -67,7 +67,7 @@ pub fn extract_last<
 {
     tree.law();
     'pairs: while let Some(id) = cursor.step_back(tree, &mut Visits::new()) {
-        let (key, value) = tree.leaf_mut_near(id, cursor.passed_at());
+        let (key, value) = tree.leaf_mut(id);
         if pred(key, value) {
             return Some(tree.remove(id));
         }

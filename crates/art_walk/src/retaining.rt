@@ -29,7 +29,7 @@ pub fn retain_by<K: AsBytes + Drop, V: Drop, F: FnMut(&K, &mut V) -> bool, const
     tree.law();
     let mut cursor = Cursor::all(tree);
     'pairs: while let Some(id) = cursor.step(tree, &mut Visits::new()) {
-        let (key, value) = tree.leaf_mut_near(id, cursor.passed_at());
+        let (key, value) = tree.leaf_mut(id);
         if f(key, value) {
             continue;
         }

@@ -9,7 +9,8 @@ use Rattle.blart_keys.proofs.Mapped.{list_any-map}
 use Rattle.blart_keys.specs.Steps.{bytes as pair_bytes, Puts}
 use Rattle.blart_keys.specs.Stored.{kept, pair_at}
 use Rattle.blart_keys.proofs.Options.{is_some}
-use Rattle.art_tree.specs.Adding.{Adds, Placed, Stored, Conflict}
+use Rattle.art_tree.specs.Adding.{Adds}
+use Rattle.art_tree.specs.declared.tree.add.Added.TheVariants.{Placed, Stored, Conflict}
 use Rattle.art_tree.specs.Begins.{Bytes}
 use Rattle.art_tree.specs.Content.{Content}
 use Rattle.art_tree.specs.Leaves.{Numbered, leaf_in, Has, AreDistinct, with_pair, with_value, bytes}

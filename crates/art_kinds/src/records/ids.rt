@@ -2,7 +2,7 @@
 ghost use Rattle.std.specs.Prelude.{◌≡◌, ◌+◌, ◌*◌, ◌%◌, ◌<◌, ◌^◌};
 ghost use Rattle.art_kinds.specs.Numbers.{digit, kind_of, number};
 
-use art_slots::CellId;
+use art_slots::LeafId;
 use std::marker::Model;
 
 /// The kind of an inner node: the number of children that its record has places for.
@@ -95,7 +95,7 @@ impl NodeId {
 /// A child of an inner node: a leaf, or another inner node.
 #[derive(Clone, Copy)]
 pub enum Child {
-    Leaf(CellId),
+    Leaf(LeafId),
     Inner(NodeId),
 }
 

@@ -2,10 +2,10 @@
 ghost use Rattle.std.specs.Prelude.{◌≡◌, Some, None};
 
 use crate::records::ids::{Child, NodeId};
-use art_slots::CellId;
+use art_slots::LeafId;
 use std::marker::Model;
 
-/// A child in one word: 8 times the number of the leaf's cell, or 8 times the node's place plus 1
+/// A child in one word: 8 times the leaf's id, or 8 times the node's place plus 1
 /// to 4 for its kind. A contract sees the child.
 #[derive(Clone, Copy)]
 pub(crate) struct Link {
@@ -60,7 +60,7 @@ impl Link {
         let number = self.word / 8;
         let digit = self.word % 8;
         if digit == 0 {
-            return Child::Leaf(CellId::new(number));
+            return Child::Leaf(LeafId::new(number));
         }
         Child::Inner(NodeId {
             number: number * 4 + digit - 1,

@@ -9,7 +9,7 @@ use crate::records::indexed::Indexed;
 use crate::records::inner::Inner;
 use crate::records::link::{Link, OptionLink};
 use crate::records::nodes::Nodes;
-use art_slots::{CellId, Visits};
+use art_slots::{LeafId, Visits};
 use std::process::Abort;
 
 /// Ten steps, in ascending order of their bytes.
@@ -24,9 +24,9 @@ fn byte_of(step: u8) -> u8 {
 fn leaves_from(first: usize) -> [Child; 256]
     requires { first < 1000 }
 {
-    let mut leaves = [Child::Leaf(CellId::new(0)); 256];
+    let mut leaves = [Child::Leaf(LeafId::new(0)); 256];
     for step in 0..256 {
-        leaves[step] = Child::Leaf(CellId::new(first + step));
+        leaves[step] = Child::Leaf(LeafId::new(first + step));
     }
     leaves
 }
@@ -69,7 +69,7 @@ fn node_of(rt: &impl Abort, nodes: &mut Nodes<0>, depth: usize, children: &[Chil
 fn middle_of(rt: &impl Abort, nodes: &mut Nodes<0>, first: usize) -> NodeId
     requires { first ≤ 900 }
 {
-    let mut lows = [Child::Leaf(CellId::new(0)); 10];
+    let mut lows = [Child::Leaf(LeafId::new(0)); 10];
     for step in 0..10 {
         let leaves = leaves_from(first + 10 * step);
         lows[step] = Child::Inner(node_of(rt, nodes, 2, &leaves[..10]));
@@ -79,7 +79,7 @@ fn middle_of(rt: &impl Abort, nodes: &mut Nodes<0>, first: usize) -> NodeId
 
 /// Makes the node above a thousand leaves.
 fn top_of(rt: &impl Abort, nodes: &mut Nodes<0>) -> NodeId {
-    let mut middles = [Child::Leaf(CellId::new(0)); 10];
+    let mut middles = [Child::Leaf(LeafId::new(0)); 10];
     for step in 0..10 {
         middles[step] = Child::Inner(middle_of(rt, nodes, 100 * step));
     }

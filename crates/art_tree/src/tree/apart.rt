@@ -1,12 +1,12 @@
-//! The pairs of a tree as a list, and a tree of the pairs of a list.
+//! Trees that are taken apart, and trees that are made of pairs.
 ghost use Rattle.std.specs.Prelude.{◌≡◌, ◌≤◌, length};
 ghost use Rattle.blart_keys.specs.Content.{IsContent};
 ghost use Rattle.blart_keys.specs.Steps.{bytes};
 ghost use Rattle.art_tree.specs.Pairs.{pairs_of};
 
+use crate::pair_list::Pairs;
 use crate::tree::Tree;
-use art_cells::pair_list::CellPairs as Pairs;
-use art_cells::{CellTree, Frame};
+use crate::tree::build::{Frame, build};
 use blart_keys::AsBytes;
 
 impl<K: AsBytes, V, const PREFIX_LEN: usize> Tree<K, V, PREFIX_LEN> {
@@ -16,8 +16,9 @@ impl<K: AsBytes, V, const PREFIX_LEN: usize> Tree<K, V, PREFIX_LEN> {
     pub fn into_pairs(self) -> Pairs<K, V>
         ensures { result.pairs ≡ pairs_of self.pairs }
     {
-        let Tree { cells } = self;
-        cells.into_pairs()
+        let Tree { leaves, nodes, .. } = self;
+        drop(nodes);
+        Pairs { leaves }
     }
 
     /// Returns a tree of these pairs. The bytes of their keys must ascend, and no key's bytes may
@@ -30,8 +31,16 @@ impl<K: AsBytes, V, const PREFIX_LEN: usize> Tree<K, V, PREFIX_LEN> {
         requires room { length pairs.pairs ≤ frame }
         ensures { pairs_of result.pairs ≡ pairs.pairs }
     {
+        let Pairs { leaves } = pairs;
+        let Frame { nodes, loose } = frame;
+        let mut nodes = nodes;
+        let mut loose = loose;
+        let root = build(&leaves, &mut nodes, &mut loose);
+        drop(loose);
         Tree {
-            cells: CellTree::from_pairs(pairs, frame),
+            leaves,
+            nodes,
+            root,
         }
     }
 }

@@ -1,16 +1,13 @@
-//! Calls that replace and remove pairs, and that return mutable references to values.
-ghost use Rattle.std.specs.Prelude.{◌≡◌, ◌<◌, ◌≤◌, ℕ, [], option_map, Some, None, OnOk, OnErr};
+//! Calls that replace pairs, and that return mutable references to values.
+ghost use Rattle.std.specs.Prelude.{◌≡◌, ◌+◌, ◌<◌, ◌≤◌, [], option_map, Some, OnOk, OnErr};
 ghost use Rattle.std.specs.Borrow.{sem};
-ghost use Rattle.blart_keys.specs.Content.{at, without};
-ghost use Rattle.art_tree.specs.Leaves.{leaf_in, Has, OthersStand, with_pair, without_number, bytes};
+ghost use Rattle.art_tree.specs.Leaves.{leaf_in, Has, OthersStand, with_pair, bytes};
 ghost use Rattle.art_tree.specs.Content.{room};
 ghost use Rattle.art_tree.specs.Takes.{MayTake};
 ghost use Rattle.art_tree.specs.TreeLends.{lends_leaf};
 
-use crate::ids::{cell_near, cell_of};
-use crate::leaf_id::LeafId;
 use crate::tree::Tree;
-use art_cells::Position;
+use art_slots::LeafId;
 use blart_keys::AsBytes;
 use std::alloc::AllocError;
 
@@ -28,9 +25,8 @@ impl<K: AsBytes + Drop, V: Drop, const PREFIX_LEN: usize> Tree<K, V, PREFIX_LEN>
         ensures others { OthersStand self.old.pairs self.new.pairs id }
         ensures spares { self.new.spares ≡ self.old.spares }
     {
-        self.cells.law();
-        let cell = cell_of(&self.cells, id);
-        self.cells.swap(cell, key, value)
+        self.leaves.law();
+        self.leaves.exchange(id, key, value)
     }
 
     /// Drops every pair and every spare record. Does not allocate.
@@ -41,7 +37,9 @@ impl<K: AsBytes + Drop, V: Drop, const PREFIX_LEN: usize> Tree<K, V, PREFIX_LEN>
         ensures pairs { self.new.pairs ≡ [] }
         ensures room { room self.new ≡ 0 }
     {
-        self.cells.clear();
+        self.leaves.clear();
+        self.nodes.clear();
+        self.root = None;
     }
 
     /// Makes room for `count` placements, or returns an error if it fails to allocate. The pairs
@@ -54,39 +52,8 @@ impl<K: AsBytes + Drop, V: Drop, const PREFIX_LEN: usize> Tree<K, V, PREFIX_LEN>
         ensures ok { OnOk result (count ≤ room self.new) }
         ensures refused { OnErr result (0 < count) }
     {
-        self.cells.law();
-        self.cells.reserve(count)
-    }
-
-    /// Removes a leaf, and returns its pair. Each other id names the pair that it named. Does not
-    /// return an error.
-    ///
-    /// Cost: one descent by the key of the leaf.
-    pub fn remove(&mut self, id: LeafId) -> (K, V)
-        requires { Has self.old.pairs id }
-        ensures value { leaf_in self.old.pairs id ≡ Some result }
-        ensures rest { self.new.pairs ≡ without_number self.old.pairs id }
-        ensures others { OthersStand self.old.pairs self.new.pairs id }
-        ensures gone { leaf_in self.new.pairs id ≡ None }
-    {
-        self.cells.law();
-        let cell = cell_of(&self.cells, id);
-        self.cells.remove(cell)
-    }
-
-    /// Removes the pair with these bytes and returns it, or returns `None` if there is no such
-    /// pair. Each other id names the pair that it named. Does not return an error.
-    ///
-    /// Cost: one descent.
-    pub fn take(&mut self, query: &[u8]) -> Option<(K, V)>
-        ensures taken { result
-            ≡ option_map (λ p. p.1) (at (bytes K.bytes) self.old.pairs query.now) }
-        ensures rest { self.new.pairs ≡ without (bytes K.bytes) self.old.pairs query.now }
-        ensures others { (id : ℕ) (x : K × V) → leaf_in self.new.pairs id ≡ Some x
-            → leaf_in self.old.pairs id ≡ Some x }
-    {
-        self.cells.law();
-        self.cells.take(query)
+        self.leaves.reserve(count)?;
+        self.nodes.reserve(count)
     }
 }
 
@@ -100,27 +67,7 @@ impl<K: AsBytes, V, const PREFIX_LEN: usize> Tree<K, V, PREFIX_LEN> {
             (lends_leaf K.row V.row PREFIX_LEN.row K.AsBytes self.entry id result.1) }
         ensures value { leaf_in self.old.pairs id ≡ Some (result.0.now, result.1.now) }
     {
-        self.cells.law();
-        let cell = cell_of(&self.cells, id);
-        self.cells.leaf_mut(cell)
-    }
-
-    /// Returns the key of a leaf, and a mutable reference to its value.
-    ///
-    /// `seen` is a guess of the position of the leaf. If it is right, the table that leads from ids
-    /// to leaves is not read.
-    ///
-    /// Cost: reads the leaf.
-    #[inline(always)]
-    pub fn leaf_mut_near(&mut self, id: LeafId, seen: Position) -> (&K, &mut V)
-        requires { Has self.old.pairs id }
-        ensures* writes_back { sem 𝓛
-            (lends_leaf K.row V.row PREFIX_LEN.row K.AsBytes self.entry id result.1) }
-        ensures value { leaf_in self.old.pairs id ≡ Some (result.0.now, result.1.now) }
-    {
-        self.cells.law();
-        let cell = cell_near(&self.cells, id, seen);
-        self.cells.leaf_mut(cell)
+        self.leaves.get_mut(id)
     }
 
     /// Returns a mutable reference to the value of a leaf.

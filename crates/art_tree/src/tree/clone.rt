@@ -20,7 +20,9 @@ impl<K: AsBytes + Clone, V: Clone, const PREFIX_LEN: usize> Tree<K, V, PREFIX_LE
             map (λ p. p.0) copy.pairs ≡ map (λ p. p.0) self.now.pairs) }
     {
         Ok(Tree {
-            cells: self.cells.clone()?,
+            leaves: self.leaves.clone()?,
+            nodes: self.nodes.clone()?,
+            root: self.root,
         })
     }
 }

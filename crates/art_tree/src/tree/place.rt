@@ -1,181 +1,435 @@
-//! Points, and placements of pairs.
-ghost use Rattle.std.specs.Prelude.{◌≡◌, ◌+◌, ◌<◌, ◌≤◌, ℕ, List, map, Some, None, Ok, IsSome, OnOk, OnErr};
-ghost use Rattle.blart_keys.specs.Content.{IsPut};
-ghost use Rattle.blart_keys.specs.Steps.{bytes as pair_bytes};
-ghost use Rattle.art_cells.specs.Content.{Content as CellContent, IsOpen as IsOpenCell, Fits as FitsCell};
-ghost use Rattle.art_cells.specs.Points.{IsGood as IsGoodCell, IsFree as IsFreeCell};
-ghost use Rattle.art_tree.specs.Leaves.{leaf_in, Has, OthersStand};
-ghost use Rattle.art_tree.specs.Content.{Content, room, Fits, IsOpen};
-ghost use Rattle.art_tree.specs.Adding.{Adds};
-ghost use Rattle.art_tree.specs.Points.{IsGood, IsFree};
-ghost use Rattle.art_tree.specs.UnderIds.{under_ids, AreNamed};
+//! Placements of pairs.
+ghost use Rattle.std.specs.Prelude.{◌≡◌, ◌≢◌, ◌+◌, ◌-◌, ◌^◌, ◌<◌, ◌≤◌, [], length, take, slice_range, slice_index_or, true, Option, Some, IfSome};
+ghost use Rattle.art_tree.specs.Begins.{Bytes};
+ghost use Rattle.art_tree.specs.Invariant.Shape.{Shape};
+ghost use Rattle.art_tree.specs.Calls.Spots.{SpotFits};
+ghost use Rattle.art_tree.specs.Invariant.EdgesAbove.{LeadsTo, TurnsTo, AscendsAt};
+ghost use Rattle.art_tree.specs.Content.{Fits, IsOpen, room as places};
+ghost use Rattle.art_tree.specs.Calls.Placing.{IsSpotFor, HasNearest, IsShown, IsShownIn, IsOverLeaf, IsToJoin, TreeGains, Forks, DepthWithin, KeepsFrom, PutsPair, content_of};
+ghost use Rattle.art_kinds.specs.Nodes.{at, room, FitsNew, SameSpares};
+ghost use Rattle.art_tree.specs.Leaves.{keys_in, room as leaves_room};
+ghost use Rattle.art_tree.specs.Calls.Removing.{StartsBelow, EndsBelow, Cuts};
+ghost use Rattle.art_tree.specs.Points.{IsFree, IsGood};
+ghost use Rattle.art_tree.specs.Invariant.Sound.{IsSound};
+ghost use Rattle.art_kinds.specs.declared.records.ids.Child.{Child as Way};
+ghost use Rattle.art_kinds.specs.declared.records.ids.Child.TheVariants.{Inner};
 
-use crate::ids::id_of;
-use crate::leaf_id::LeafId;
-use crate::tree::Tree;
+use crate::tree::descent::{EdgeAbove, Spot, locate};
+use crate::tree::parting::leaf_before;
 use crate::tree::point::{Place, Point};
-use art_cells::{Added, Beside, CellPlace, CellPoint, CellTree};
+use art_kinds::{Child, Edge, NodeId, Nodes};
+use art_rows::{Leaves, Position};
+use art_slots::{LeafId, Visits};
 use blart_keys::AsBytes;
-use std::alloc::AllocError;
 
-impl<K: AsBytes, V, const PREFIX_LEN: usize> Tree<K, V, PREFIX_LEN> {
-    /// Returns the point of these bytes: the leaf that has them, the leaves that they conflict
-    /// with, or a free place. The point is good for these bytes while the pairs are unchanged.
-    ///
-    /// Cost: one descent.
-    pub fn point(&self, query: &[u8]) -> Point
-        ensures { IsGood K.bytes self.now.pairs result query.now }
-    {
-        self.cells.law();
-        match self.cells.point(query) {
-            CellPoint::Empty => Point::Empty,
-            CellPoint::Exact(cell) => Point::Exact(id_of(&self.cells, cell)),
-            CellPoint::Related { first, last } => {
-                let first = id_of(&self.cells, first);
-                let last = id_of(&self.cells, last);
-                Point::Related { first, last }
-            }
-            CellPoint::Free(seen) => {
-                let nearest = id_of(&self.cells, seen.nearest);
-                Point::Free(Place { nearest, seen })
-            }
-        }
-    }
+/// A leaf that joins the tree, and the depth at which its key leaves the other keys.
+#[derive(Clone, Copy)]
+struct NewLeaf<'a> {
+    id: LeafId,
+    key: &'a [u8],
+    depth: usize,
 }
 
-impl<K: AsBytes + Drop, V: Drop, const PREFIX_LEN: usize> Tree<K, V, PREFIX_LEN> {
-    /// Makes room for a placement at the point, or returns an error if it fails to allocate. The
-    /// pairs are unchanged in both cases, and the point remains good.
-    ///
-    /// Cost: allocates for one pair.
-    pub fn make_room(&mut self, point: &Point) -> Result<(), AllocError>
-        ensures pairs { self.new.pairs ≡ self.old.pairs }
-        ensures fits { OnOk result (Fits self.new point.now) }
-        ensures room { room self.old ≤ room self.new }
-        ensures refused { OnErr result (IsOpen point.now) }
-    {
-        self.cells.law();
-        match point {
-            Point::Exact(_) | Point::Related { .. } => Ok(()),
-            Point::Empty => self.cells.make_room(&CellPoint::Empty),
-            Point::Free(place) => self.cells.make_room(&CellPoint::Free(place.seen)),
-        }
-    }
-
-    /// Places a pair, and returns its leaf. The point must be empty or free, good for the bytes of
-    /// the key, and there must be room at it. Each other id names the pair that it named. Does not
-    /// allocate.
-    ///
-    /// Cost: one descent if the edge at the point has changed since. If the row at the place is
-    /// full, 32 leaves move to another row, with a descent for each whose edge was not guessed.
-    pub fn place(&mut self, point: Point, key: K, value: V) -> LeafId
-        requires good { IsGood K.bytes self.old.pairs point (K.bytes key) }
-        requires open { IsOpen point }
-        requires fits { Fits self.old point }
-        ensures put { IsPut (pair_bytes K.bytes) (map (λ p. p.1) self.old.pairs) (key, value)
-            (map (λ p. p.1) self.new.pairs) }
-        ensures fresh { leaf_in self.old.pairs result ≡ None }
-        ensures now { leaf_in self.new.pairs result ≡ Some (key, value) }
-        ensures others { OthersStand self.old.pairs self.new.pairs result }
-        ensures room { room self.old ≤ room self.new + 1 }
-    {
-        self.cells.law();
-        let at = cell_point(&self.cells, &point);
-        let placed = self.cells.place(at, key, value);
-        self.cells.law();
-        id_of(&self.cells, placed)
-    }
-
-    /// Adds a pair if its key is related to no stored key. Each other id names the pair that it
-    /// named. Returns an error if it fails to allocate, and the pairs are then unchanged.
-    ///
-    /// This is [`Tree::point`], [`Tree::make_room`] and [`Tree::place`] in one call. It reads each
-    /// node once, and does not read the table of ids.
-    ///
-    /// Cost: one descent. If no stored key is related to the key, it also allocates for one pair.
-    /// If the row at the place is full, 32 leaves move to another row first, with a descent for
-    /// each whose edge was not guessed, and one more descent may find the place again.
-    pub fn add(&mut self, key: K, value: V) -> Result<Added<LeafId, K, V>, AllocError>
-        ensures added { Adds K.bytes self.old self.new (key, value) result }
-        ensures room { room self.old ≤ room self.new + 1 }
-    {
-        self.cells.law();
-        let added = self.cells.add(key, value);
-        self.cells.law();
-        match added {
-            Ok(Added::Placed) => Ok(Added::Placed),
-            Ok(Added::Stored(cell, key, value)) => {
-                let id = id_of(&self.cells, cell);
-                Ok(Added::Stored(id, key, value))
-            }
-            Ok(Added::Conflict(cell, key, value)) => {
-                let id = id_of(&self.cells, cell);
-                Ok(Added::Conflict(id, key, value))
-            }
-            Err(refused) => Err(refused),
-        }
-    }
-
-    /// Adds a pair for which there is room, if its key is related to no stored key. Each other id
-    /// names the pair that it named.
-    ///
-    /// Cost: as for [`Tree::add`], and does not allocate.
-    pub fn add_within(&mut self, key: K, value: V) -> Added<LeafId, K, V>
-        requires room { 0 < room self.old }
-        ensures added { Adds K.bytes self.old self.new (key, value) (Ok result) }
-        ensures room { room self.old ≤ room self.new + 1 }
-    {
-        self.cells.law();
-        let added = self.cells.add_within(key, value);
-        self.cells.law();
-        match added {
-            Added::Placed => Added::Placed,
-            Added::Stored(cell, key, value) => {
-                let id = id_of(&self.cells, cell);
-                Added::Stored(id, key, value)
-            }
-            Added::Conflict(cell, key, value) => {
-                let id = id_of(&self.cells, cell);
-                Added::Conflict(id, key, value)
-            }
-        }
-    }
-}
-
-/// Returns the same point in the tree over cells.
-fn cell_point<K: AsBytes, V, const P: usize>(cells: &CellTree<K, V, P>, point: &Point) -> CellPoint
-    requires good { (q : List ℕ)
-        × IsGood K.bytes (under_ids cells.now.ids cells.now.pairs) point.now q }
+/// Places a pair at a point that is good for its key. Returns its leaf, and the root.
+pub(crate) fn place_at<K: AsBytes + Drop, V: Drop, const P: usize>(
+    leaves: &mut Leaves<K, V>,
+    nodes: &mut Nodes<P>,
+    root: &Option<Child>,
+    point: &Point,
+    key: K,
+    value: V,
+) -> (LeafId, Child)
+    requires whole { IsSound K.bytes P leaves.old nodes.old root.now }
+    requires good { IsGood K.bytes leaves.old.pairs point.now (K.bytes key) }
     requires open { IsOpen point.now }
-    ensures good { (q : List ℕ)
-        → IsGood K.bytes (under_ids cells.now.ids cells.now.pairs) point.now q
-        → IsGoodCell K.bytes cells.now.pairs result q }
-    ensures open { IsOpenCell result }
-    ensures fits { (t : Content K V) (u : CellContent K V)
-        → t.spares ≡ u.spares → Fits t point.now → FitsCell u result }
+    requires fits { Fits (content_of leaves.old nodes.old) point.now }
+    ensures placed { PutsPair K.bytes leaves.old.pairs leaves.new.pairs result.0
+        (key, value) }
+    ensures whole { IsSound K.bytes P leaves.new nodes.new (Some result.1) }
+    ensures room { places (content_of leaves.old nodes.old)
+        ≤ places (content_of leaves.new nodes.new) + 1 }
 {
     match point {
-        Point::Empty => CellPoint::Empty,
-        Point::Free(place) => CellPoint::Free(cell_place(cells, place)),
+        Point::Empty => place_first(leaves, nodes, root, key, value),
+        Point::Free(place) => match root {
+            Some(root) => {
+                let shown = spot_shown(nodes, root, place);
+                place_beside(leaves, nodes, root, place, &shown, key, value)
+            }
+            None => unreachable!(),
+        },
         _ => unreachable!(),
     }
 }
 
-/// Returns the same place in the tree over cells, beside the present cell of the nearest leaf.
-fn cell_place<K: AsBytes, V, const P: usize>(cells: &CellTree<K, V, P>, place: &Place) -> CellPlace
-    requires { Has (under_ids cells.now.ids cells.now.pairs) place.now.nearest }
-    ensures { (q : List ℕ) → IsFree K.bytes (under_ids cells.now.ids cells.now.pairs) place.now q
-        → IsFreeCell K.bytes cells.now.pairs result q }
+/// Places the first pair. Returns its leaf, and the root.
+pub(crate) fn place_first<K: AsBytes + Drop, V: Drop, const P: usize>(
+    leaves: &mut Leaves<K, V>,
+    nodes: &Nodes<P>,
+    root: &Option<Child>,
+    key: K,
+    value: V,
+) -> (LeafId, Child)
+    requires whole { IsSound K.bytes P leaves.old nodes.now root.now }
+    requires empty { leaves.old.pairs ≡ [] }
+    requires room { 0 < leaves_room leaves.old }
+    ensures placed { PutsPair K.bytes leaves.old.pairs leaves.new.pairs result.0
+        (key, value) }
+    ensures whole { IsSound K.bytes P leaves.new nodes.now (Some result.1) }
+    ensures room { leaves_room leaves.old ≤ leaves_room leaves.new + 1 }
 {
-    cells.law();
-    let nearest = cells.cell_again(place.nearest.number(), place.seen.nearest);
-    let beside = match place.seen.beside {
-        Beside::AfterLeaf(_) => Beside::AfterLeaf(nearest),
-        Beside::BeforeLeaf(_) => Beside::BeforeLeaf(nearest),
+    leaves.law();
+    let id = leaves.insert(None, Position::unknown(), key, value);
+    (id, Child::Leaf(id))
+}
+
+/// Places a pair beside others. `shown` is the spot where its key leaves them, if that is known.
+/// Returns its leaf, and the root.
+pub(crate) fn place_beside<K: AsBytes + Drop, V: Drop, const P: usize>(
+    leaves: &mut Leaves<K, V>,
+    nodes: &mut Nodes<P>,
+    root: &Child,
+    place: &Place,
+    shown: &Option<Spot>,
+    key: K,
+    value: V,
+) -> (LeafId, Child)
+    requires whole { IsSound K.bytes P leaves.old nodes.old (Some root.now) }
+    requires free { IsFree K.bytes leaves.old.pairs place.now (K.bytes key) }
+    requires shown { IfSome shown.now (IsShownIn P (keys_in K.bytes leaves.old.pairs) (at nodes.old)
+        root.now place.now.nearest place.now.depth) }
+    requires leaves_room { 0 < leaves_room leaves.old }
+    requires nodes_room { 0 < room nodes.old }
+    ensures placed { PutsPair K.bytes leaves.old.pairs leaves.new.pairs result.0
+        (key, value) }
+    ensures whole { IsSound K.bytes P leaves.new nodes.new (Some result.1) }
+    ensures leaves_room { leaves_room leaves.old ≤ leaves_room leaves.new + 1 }
+    ensures nodes_room { room nodes.old ≤ room nodes.new + 1 }
+{
+    leaves.law();
+    let (prev, seen) = leaf_before(leaves, &place.beside);
+    let id = leaves.insert(prev, seen, key, value);
+    let top = join(leaves, nodes, root, place, shown, id);
+    (id, top)
+}
+
+/// Adds a leaf to the tree. Its key leaves the nearest key at the depth of a place, at the spot
+/// `shown` if that is known. Reads the nearest leaf only if the spot is no node. Returns the root.
+fn join<K: AsBytes, V, const P: usize>(
+    leaves: &Leaves<K, V>,
+    nodes: &mut Nodes<P>,
+    root: &Child,
+    place: &Place,
+    shown: &Option<Spot>,
+    id: LeafId,
+) -> Child
+    requires joins { IsToJoin P (keys_in K.bytes leaves.now.pairs) (at nodes.old) root.now
+        place.now.nearest place.now.depth shown.now id }
+    requires room { 0 < room nodes.old }
+    ensures shape { Shape P (keys_in K.bytes leaves.now.pairs) (at nodes.new) (Some result) }
+    ensures room { room nodes.old ≤ room nodes.new + 1 }
+{
+    let (own, _) = leaves.read(id, &mut Visits::new());
+    let leaf = NewLeaf {
+        id,
+        key: own.as_bytes(),
+        depth: place.depth,
     };
-    CellPlace {
-        nearest,
-        beside,
-        ..place.seen
+    let known = *shown;
+    if let Some(Spot::Node(above, node)) = known {
+        return add_at_node(nodes, root, &above, &node, &leaf);
+    }
+    let (nearest, _) = leaves.read(place.nearest, &mut Visits::new());
+    let nearest = nearest.as_bytes();
+    let spot = spot_for(nodes, root, place, shown, nearest);
+    add_leaf(nodes, root, &spot, &leaf, nearest)
+}
+
+/// Returns where a key leaves the nearest key at the depth of a place: the spot that is known, or
+/// else the end of a descent by the nearest key.
+fn spot_for<const P: usize>(
+    nodes: &Nodes<P>,
+    root: &Child,
+    place: &Place,
+    shown: &Option<Spot>,
+    nearest: &[u8],
+) -> Spot
+    requires { HasNearest P (at nodes.now) root.now place.now shown.now nearest.now }
+    ensures { (h : HasNearest P (at nodes.now) root.now place.now shown.now nearest.now)
+        → SpotFits (at nodes.now)
+        (Some root.now) h.shape.front_of nearest.now place.now.depth result }
+{
+    match shown {
+        Some(spot) => *spot,
+        None => locate(nodes, root, nearest, place.depth, &mut Visits::new()),
+    }
+}
+
+/// Returns the spot at the end of a place's edge, if that edge still leads to the nearest leaf or
+/// to a node that has it. Reads no leaf.
+fn spot_shown<const P: usize>(nodes: &Nodes<P>, root: &Child, place: &Place) -> Option<Spot>
+    ensures { IfSome result (IsShown P (at nodes.now) root.now place.now) }
+{
+    let (above, child) = edge_toward(nodes, root, place)?;
+    match child {
+        Child::Leaf(id) => {
+            if id != place.nearest {
+                return None;
+            }
+            Some(Spot::Edge(above, Child::Leaf(id)))
+        }
+        Child::Inner(id) => {
+            if !is_over_nearest(nodes, &id, place) {
+                return None;
+            }
+            Some(Spot::Node(above, id))
+        }
+    }
+}
+
+/// Returns the edge above a place, and its child, if the node of that edge is above the place.
+fn edge_toward<const P: usize>(
+    nodes: &Nodes<P>,
+    root: &Child,
+    place: &Place,
+) -> Option<(EdgeAbove, Child)>
+    ensures leads { IfSome result (λ e. LeadsTo (at nodes.now) (Some root.now) e.0 e.1) }
+    ensures ends { IfSome result (λ e. EndsBelow (at nodes.now) e.0 place.now.depth) }
+{
+    let Some((parent, byte)) = place.spot.above() else {
+        return Some((None, *root));
+    };
+    if !nodes.has(parent) {
+        return None;
+    }
+    let node = nodes.read(parent, &mut Visits::new());
+    if node.depth() >= place.depth {
+        return None;
+    }
+    let child = node.find(byte)?;
+    Some((Some((parent, byte)), child))
+}
+
+/// Returns `true` if a node has the depth of a place, and its edge by the place's byte leads to the
+/// nearest leaf.
+fn is_over_nearest<const P: usize>(nodes: &Nodes<P>, id: &NodeId, place: &Place) -> bool
+    ensures { result ≡ true
+        → IsOverLeaf (at nodes.now) id.now place.now.depth place.now.byte place.now.nearest }
+{
+    if !nodes.has(*id) {
+        return false;
+    }
+    let node = nodes.read(*id, &mut Visits::new());
+    if node.depth() != place.depth {
+        return false;
+    }
+    let Some(child) = node.find(place.byte) else {
+        return false;
+    };
+    match child {
+        Child::Leaf(leaf) => leaf == place.nearest,
+        Child::Inner(_) => false,
+    }
+}
+
+/// Adds a leaf where its key leaves the nearest key. Returns the root.
+fn add_leaf<const P: usize>(
+    nodes: &mut Nodes<P>,
+    root: &Child,
+    spot: &Spot,
+    leaf: &NewLeaf<'_>,
+    nearest: &[u8],
+) -> Child
+    requires spot_fits { IsSpotFor P (at nodes.old) root.now spot.now
+        leaf.now.key.now nearest.now leaf.now.depth }
+    requires fits { 0 < room nodes.old }
+    ensures gains { TreeGains P (at nodes.old) (at nodes.new) root.now result
+        spot.now leaf.now.key.now nearest.now leaf.now.depth leaf.now.id }
+    ensures room { room nodes.old ≤ room nodes.new + 1 }
+{
+    match spot {
+        Spot::Node(above, node) => add_at_node(nodes, root, above, node, leaf),
+        Spot::Edge(above, child) => add_at_edge(nodes, root, above, child, leaf, nearest),
+    }
+}
+
+/// Adds a leaf to a node where its key leaves the others. Returns the root.
+fn add_at_node<const P: usize>(
+    nodes: &mut Nodes<P>,
+    root: &Child,
+    above: &EdgeAbove,
+    node: &NodeId,
+    leaf: &NewLeaf<'_>,
+) -> Child
+    requires spot_fits { (nearest : Bytes) × IsSpotFor P (at nodes.old) root.now
+        (Spot.Node above.now node.now) leaf.now.key.now nearest leaf.now.depth }
+    requires fits { 0 < room nodes.old }
+    ensures gains { (nearest : Bytes) → TreeGains P (at nodes.old) (at nodes.new) root.now result
+        (Spot.Node above.now node.now) leaf.now.key.now nearest leaf.now.depth leaf.now.id }
+    ensures room { room nodes.old ≤ room nodes.new + 1 }
+{
+    let wide = nodes.widen(*node);
+    let top = follow(nodes, root, above, *node, wide);
+    nodes.add_edge(wide, leaf.key[leaf.depth], Child::Leaf(leaf.id));
+    top
+}
+
+/// Redirects the edge above a node to the node's number, if the number has changed. Returns the
+/// root.
+fn follow<const P: usize>(
+    nodes: &mut Nodes<P>,
+    root: &Child,
+    above: &EdgeAbove,
+    node: NodeId,
+    now: NodeId,
+) -> Child
+    requires leads { LeadsTo (at nodes.old) (Some root.now) above.now (Inner node) }
+    requires ascends { AscendsAt (at nodes.old) above.now }
+    ensures turned { TurnsTo (at nodes.old) (at nodes.new) (Some root.now) (Some result)
+        above.now (Inner now) }
+    ensures spares { SameSpares nodes.old nodes.new }
+{
+    if now == node {
+        return *root;
+    }
+    lead(nodes, root, above, &Child::Inner(now))
+}
+
+/// Adds a leaf at an edge where its key leaves those below, under a new node. Returns the root.
+fn add_at_edge<const P: usize>(
+    nodes: &mut Nodes<P>,
+    root: &Child,
+    above: &EdgeAbove,
+    child: &Child,
+    leaf: &NewLeaf<'_>,
+    nearest: &[u8],
+) -> Child
+    requires spot_fits { IsSpotFor P (at nodes.old) root.now
+        (Spot.Edge above.now child.now) leaf.now.key.now nearest.now leaf.now.depth }
+    requires fits { FitsNew nodes.old }
+    ensures gains { TreeGains P (at nodes.old) (at nodes.new) root.now result
+        (Spot.Edge above.now child.now) leaf.now.key.now nearest.now leaf.now.depth
+        leaf.now.id }
+    ensures room { room nodes.old ≤ room nodes.new + 1 }
+{
+    let depth = leaf.depth;
+    let start = start_below(nodes, above);
+    let byte = byte_on(nodes, child, nearest, start, depth);
+    cut_prefix(nodes, child, nearest, start, depth + 1);
+    let own = Edge {
+        byte: leaf.key[depth],
+        to: Child::Leaf(leaf.id),
+    };
+    let other = Edge { byte, to: *child };
+    let made = fork(nodes, depth, &leaf.key[start..depth], &own, &other);
+    lead(nodes, root, above, &Child::Inner(made))
+}
+
+/// Redirects the edge above a child to another child. Returns the root.
+pub(crate) fn lead<const P: usize>(
+    nodes: &mut Nodes<P>,
+    root: &Child,
+    above: &EdgeAbove,
+    to: &Child,
+) -> Child
+    requires { (child : Way) × LeadsTo (at nodes.old) (Some root.now) above.now child }
+    ensures turned { TurnsTo (at nodes.old) (at nodes.new) (Some root.now) (Some result)
+        above.now to.now }
+    ensures spares { SameSpares nodes.old nodes.new }
+{
+    match above {
+        None => *to,
+        Some((parent, byte)) => {
+            nodes.redirect(*parent, *byte, *to);
+            *root
+        }
+    }
+}
+
+/// Makes a node with two edges.
+fn fork<const P: usize>(
+    nodes: &mut Nodes<P>,
+    depth: usize,
+    prefix: &[u8],
+    one: &Edge,
+    other: &Edge,
+) -> NodeId
+    requires fits { FitsNew nodes.old }
+    requires apart { one.now.byte ≢ other.now.byte }
+    ensures made { Forks (at nodes.old) (at nodes.new) result depth
+        (take P prefix.now) one.now other.now }
+    ensures room { room nodes.old ≤ room nodes.new + 1 }
+{
+    if one.byte < other.byte {
+        nodes.new_node(depth, prefix, *one, *other)
+    } else {
+        nodes.new_node(depth, prefix, *other, *one)
+    }
+}
+
+/// Returns the depth at which the compressed prefix below an edge begins.
+fn start_below<const P: usize>(nodes: &Nodes<P>, above: &EdgeAbove) -> usize
+    requires { EndsBelow (at nodes.now) above.now (2 ^ 64 - 1) }
+    ensures { StartsBelow (at nodes.now) above.now result }
+{
+    match above {
+        None => 0,
+        Some((parent, _)) => nodes.read(*parent, &mut Visits::new()).depth() + 1,
+    }
+}
+
+/// Returns the byte that the keys below a child have at a depth. The compressed prefix above the
+/// child begins at `from`. The byte is one that the node keeps, or else one of a key below it.
+fn byte_on<const P: usize>(
+    nodes: &Nodes<P>,
+    child: &Child,
+    key: &[u8],
+    from: usize,
+    depth: usize,
+) -> u8
+    requires live { DepthWithin (at nodes.now) child.now (depth + 1) (length key.now) }
+    requires long { depth < length key.now }
+    requires kept { KeepsFrom P (at nodes.now) child.now key.now from }
+    requires reaches { from ≤ depth }
+    ensures { result ≡ slice_index_or key.now depth 0 }
+{
+    match child {
+        Child::Leaf(_) => key[depth],
+        Child::Inner(id) => {
+            let node = nodes.read(*id, &mut Visits::new());
+            match node.prefix_byte(depth - from) {
+                Some(byte) => byte,
+                None => key[depth],
+            }
+        }
+    }
+}
+
+/// Cuts the compressed prefix of a node, so that it begins at `start` in place of `from`. If the
+/// node kept the whole prefix, it keeps the rest of it, or else bytes of a key below it.
+fn cut_prefix<const P: usize>(
+    nodes: &mut Nodes<P>,
+    child: &Child,
+    key: &[u8],
+    from: usize,
+    start: usize,
+)
+    requires live { DepthWithin (at nodes.old) child.now start (length key.now) }
+    requires kept { KeepsFrom P (at nodes.old) child.now key.now from }
+    requires reaches { from ≤ start }
+    ensures cut { Cuts (at nodes.old) (at nodes.new) child.now
+        (λ end. take P (slice_range key.now start end)) }
+    ensures spares { SameSpares nodes.old nodes.new }
+{
+    match child {
+        Child::Leaf(_) => {}
+        Child::Inner(id) => {
+            let end = nodes.read(*id, &mut Visits::new()).depth();
+            if end - from <= P {
+                nodes.cut_prefix(*id, start - from);
+            } else {
+                nodes.set_prefix(*id, &key[start..end]);
+            }
+        }
     }
 }

@@ -1,16 +1,39 @@
 //! Points: the leaf that has some bytes, or the place for a new one.
+ghost use Rattle.std.specs.Prelude.{◌≡◌, ℕ, not, Option, Some};
+ghost use Rattle.art_tree.specs.Begins.{Bytes};
+ghost use Rattle.art_tree.specs.Places.{LeavesNearest, IsBeside, neighbour};
+ghost use Rattle.art_tree.specs.Calls.Descents.{IsEndUnder};
+ghost use Rattle.art_tree.specs.Calls.Placing.{IfFree, IsShownIn};
+ghost use Rattle.art_tree.specs.Calls.Stops.{IsPlaceUnder};
+ghost use Rattle.art_tree.specs.Invariant.Shape.{Shape, Covers};
+ghost use Rattle.art_tree.specs.Leaves.{keys_in};
+ghost use Rattle.art_kinds.specs.declared.records.ids.Child.{Child as Way};
+ghost use Rattle.art_kinds.specs.Nodes.{at};
+ghost use Rattle.art_tree.specs.Points.{IsGood};
+ghost use Rattle.art_tree.specs.Invariant.Sound.{IsSound};
 
-use crate::leaf_id::LeafId;
-use art_cells::CellPlace;
+use crate::tree::descent::{Spot, end_under};
+use crate::tree::parting::{Beside, edge_beside};
+use crate::tree::stop::{Stop, stop_of};
+use art_kinds::{Child, Edge, Nodes};
+use art_rows::Leaves;
+use art_slots::{LeafId, Visits};
+use blart_keys::AsBytes;
 
 /// The place of a key that is related to no stored key. It is good for the bytes that it was found
 /// for, while the pairs are unchanged.
 #[derive(Clone, Copy)]
 pub struct Place {
-    /// A leaf beside the place.
+    /// A leaf whose key has the first `depth` bytes in common with these. No key has one more.
     pub(crate) nearest: LeafId,
-    /// The place in the tree over cells, when it was found. The leaf may have moved since.
-    pub(crate) seen: CellPlace,
+    /// The number of bytes that the nearest key has in common with these.
+    pub(crate) depth: usize,
+    /// The side of the nearest leaf that the place is on.
+    pub(crate) beside: Beside,
+    /// The node or the edge where the bytes leave the keys. It may have changed since.
+    pub(crate) spot: Spot,
+    /// The byte of an edge to the nearest leaf.
+    pub(crate) byte: u8,
 }
 
 /// What a tree has at some bytes.
@@ -29,4 +52,87 @@ pub enum Point {
     },
     /// No stored key is related to the bytes. A pair with them goes to this place.
     Free(Place),
+}
+
+/// Returns the point of some bytes in a tree with some pairs. If it is free, its spot is right.
+pub(crate) fn point_below<K: AsBytes, V, const P: usize>(
+    leaves: &Leaves<K, V>,
+    nodes: &Nodes<P>,
+    root: &Child,
+    query: &[u8],
+) -> Point
+    requires { IsSound K.bytes P leaves.now nodes.now (Some root.now) }
+    ensures good { IsGood K.bytes leaves.now.pairs result query.now }
+    ensures spot { IfFree result (λ place. IsShownIn P (keys_in K.bytes leaves.now.pairs)
+        (at nodes.now) root.now place.nearest place.depth place.spot) }
+{
+    leaves.law();
+    let mut visits = Visits::new();
+    let (stop, above) = stop_of(leaves, nodes, root, query);
+    match stop {
+        Stop::Same(id) => Point::Exact(id),
+        Stop::Shorter(id) => Point::Related {
+            first: id,
+            last: id,
+        },
+        Stop::Longer(child) => Point::Related {
+            first: end_under(nodes, &child, true, &mut visits),
+            last: end_under(nodes, &child, false, &mut visits),
+        },
+        Stop::AtNode(id, depth) => {
+            let (edge, is_after) = edge_beside(nodes, &id, query[depth], &mut visits);
+            let spot = Spot::Node(above, id);
+            Point::Free(place_under(nodes, &edge, is_after, depth, &spot))
+        }
+        Stop::AtEdge(child, depth, byte) => {
+            let to = &child;
+            let edge = Edge { byte, to: *to };
+            let spot = Spot::Edge(above, *to);
+            Point::Free(place_under(nodes, &edge, byte < query[depth], depth, &spot))
+        }
+    }
+}
+
+/// Returns the place beside an edge: after the keys below it, or before them.
+fn place_under<const P: usize>(
+    nodes: &Nodes<P>,
+    edge: &Edge,
+    is_after: bool,
+    depth: usize,
+    spot: &Spot,
+) -> Place
+    requires { (keys : ℕ → Option Bytes) × (q : Bytes)
+        × IsPlaceUnder P keys (at nodes.now) q depth edge.now.to is_after }
+    ensures leaves { (keys : ℕ → Option Bytes) (q : Bytes)
+        → IsPlaceUnder P keys (at nodes.now) q depth edge.now.to is_after
+        → LeavesNearest keys result.nearest result.depth q }
+    ensures beside { (keys : ℕ → Option Bytes) (q : Bytes)
+        → IsPlaceUnder P keys (at nodes.now) q depth edge.now.to is_after
+        → IsBeside keys q result.beside }
+    ensures same { neighbour result.beside ≡ result.nearest }
+    ensures end { (keys : ℕ → Option Bytes) (root : Option Way)
+        (s : Shape P keys (at nodes.now) root) (g : Bytes)
+        → Covers keys (at nodes.now) s.front_of g edge.now.to
+        → IsEndUnder keys (not is_after) g result.nearest }
+    ensures depth { result.depth ≡ depth }
+    ensures spot { result.spot ≡ spot.now }
+{
+    let nearest = end_under(nodes, &edge.to, !is_after, &mut Visits::new());
+    if is_after {
+        Place {
+            nearest,
+            depth,
+            beside: Beside::AfterLeaf(nearest),
+            spot: *spot,
+            byte: edge.byte,
+        }
+    } else {
+        Place {
+            nearest,
+            depth,
+            beside: Beside::BeforeLeaf(nearest),
+            spot: *spot,
+            byte: edge.byte,
+        }
+    }
 }

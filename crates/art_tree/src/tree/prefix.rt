@@ -1,25 +1,114 @@
-//! Removal of all pairs whose bytes have a prefix.
+//! Removals of all pairs with a prefix.
 ghost use Rattle.std.specs.Prelude.{◌≡◌, ℕ, length, Some};
-ghost use Rattle.blart_keys.specs.Content.{under};
+ghost use Rattle.blart_keys.specs.Content.{IsContent, under};
 ghost use Rattle.blart_keys.specs.Outside.{outside};
-ghost use Rattle.art_tree.specs.Leaves.{leaf_in, bytes};
+ghost use Rattle.art_tree.specs.Calls.Pruning.{IsBranch};
+ghost use Rattle.art_tree.specs.Invariant.Shape.{Shape};
+ghost use Rattle.art_tree.specs.Invariant.Sound.{IsSound};
+ghost use Rattle.art_tree.specs.Leaves.{leaf_in, keys_in, bytes};
+ghost use Rattle.art_tree.specs.Seeks.{ends};
+ghost use Rattle.art_kinds.specs.Nodes.{at};
 
 use crate::tree::Tree;
+use crate::tree::descent::Branch;
+use crate::tree::free_subtree::free_subtree;
+use crate::tree::seek::branch_below;
+use art_kinds::{Child, Nodes};
+use art_rows::Leaves;
+use art_slots::{LeafId, Visits};
 use blart_keys::AsBytes;
 
 impl<K: AsBytes + Drop, V: Drop, const PREFIX_LEN: usize> Tree<K, V, PREFIX_LEN> {
     /// Removes every pair whose bytes begin with these, and returns the number of removed pairs.
     /// Each other id names the pair that it named. Does not return an error.
     ///
-    /// Cost: like one call of [`Tree::span`] and one of [`Tree::remove`]. Besides, it frees each
-    /// removed leaf and inner node, with no further descent.
+    /// Cost: like one call of [`Tree::span`] and one of [`Tree::remove`]. Besides, it frees
+    /// each removed leaf and inner node, with no further descent.
     pub fn remove_prefix(&mut self, prefix: &[u8]) -> usize
         ensures rest { self.new.pairs ≡ outside (bytes K.bytes) self.old.pairs prefix.now }
         ensures others { (id : ℕ) (x : K × V) → leaf_in self.new.pairs id ≡ Some x
             → leaf_in self.old.pairs id ≡ Some x }
         ensures count { result ≡ length (under (bytes K.bytes) self.old.pairs prefix.now) }
     {
-        self.cells.law();
-        self.cells.remove_prefix(prefix)
+        self.law();
+        let before = self.len();
+        self.remove_branch(prefix);
+        before - self.len()
+    }
+
+    /// Removes the pairs whose bytes begin with these.
+    fn remove_branch(&mut self, prefix: &[u8])
+        ensures { self.new.pairs ≡ outside (bytes K.bytes) self.old.pairs prefix.now }
+    {
+        let Some(root) = self.root else {
+            return;
+        };
+        let mut visits = Visits::new();
+        let Some(branch) = branch_below(&self.leaves, &self.nodes, &root, prefix, &mut visits)
+        else {
+            return;
+        };
+        let root = prune(&mut self.leaves, &mut self.nodes, &root, &branch, prefix);
+        self.root = Some(root);
+        self.leaves.law();
+        self.remove(branch.last);
+    }
+}
+
+/// Removes the leaves of a branch but the last, and redirects the edge above the branch to that
+/// one. Returns the root.
+fn prune<K: AsBytes + Drop, V: Drop, const P: usize>(
+    leaves: &mut Leaves<K, V>,
+    nodes: &mut Nodes<P>,
+    root: &Child,
+    branch: &Branch,
+    prefix: &[u8],
+) -> Child
+    requires sound { IsSound K.bytes P leaves.old nodes.old (Some root.now) }
+    requires branch { (s : Shape P (keys_in K.bytes leaves.old.pairs) (at nodes.old)
+        (Some root.now))
+        → IsBranch (keys_in K.bytes leaves.old.pairs) (at nodes.old)
+        (Some root.now) s.front_of prefix.now branch.now }
+    requires ends { ends (under (bytes K.bytes) leaves.old.pairs prefix.now)
+        ≡ Some (branch.now.first, branch.now.last) }
+    ensures sound { IsSound K.bytes P leaves.new nodes.new (Some result) }
+    ensures ends { ends (under (bytes K.bytes) leaves.new.pairs prefix.now)
+        ≡ Some (branch.now.last, branch.now.last) }
+    ensures rest { outside (bytes K.bytes) leaves.new.pairs prefix.now
+        ≡ outside (bytes K.bytes) leaves.old.pairs prefix.now }
+{
+    let root = free_subtree(nodes, root, &branch.above, &branch.child, &branch.last);
+    remove_leaves(leaves, branch.first, branch.last, prefix);
+    leaves.law();
+    root
+}
+
+/// Removes the leaves from one up to another, but for the last. These are the leaves whose bytes
+/// begin with the prefix.
+fn remove_leaves<K: AsBytes + Drop, V: Drop>(
+    leaves: &mut Leaves<K, V>,
+    first: LeafId,
+    last: LeafId,
+    prefix: &[u8],
+)
+    requires content { IsContent (bytes K.bytes) leaves.old.pairs }
+    requires ends { ends (under (bytes K.bytes) leaves.old.pairs prefix.now) ≡ Some (first, last) }
+    ensures content { IsContent (bytes K.bytes) leaves.new.pairs }
+    ensures ends { ends (under (bytes K.bytes) leaves.new.pairs prefix.now) ≡ Some (last, last) }
+    ensures rest { outside (bytes K.bytes) leaves.new.pairs prefix.now
+        ≡ outside (bytes K.bytes) leaves.old.pairs prefix.now }
+    ensures stood { (j : ℕ) (x : K × V) → leaf_in leaves.new.pairs j ≡ Some x
+        → leaf_in leaves.old.pairs j ≡ Some x }
+{
+    let mut id = first;
+    'each: while id != last {
+        leaves.law();
+        let at = leaves.position_of(id);
+        let mut seen = at;
+        let Some(next) = leaves.next_from(id, &mut seen) else {
+            unreachable!()
+        };
+        leaves.remove(id, at);
+        id = next;
     }
 }

@@ -1,17 +1,21 @@
 //! Look-ups by bytes.
-ghost use Rattle.std.specs.Prelude.{◌≡◌, ◌+◌, ◌*◌, ◌<◌, ◌≤◌, [], length, option_map, IfSome};
-ghost use Rattle.blart_keys.specs.Bounds.{bound_bytes};
-ghost use Rattle.blart_keys.specs.Content.{at, front_of, under};
+ghost use Rattle.std.specs.Prelude.{◌≡◌, ◌+◌, ◌<◌, ◌≤◌, ℕ, [], length, option_map, Option, Some, IfSome};
+ghost use Rattle.blart_keys.specs.Content.{at, front_of};
+ghost use Rattle.art_tree.specs.Begins.{Bytes};
+ghost use Rattle.art_tree.specs.Calls.Descents.{IsRoot, GoesTo, IsFrontAlone};
+ghost use Rattle.art_tree.specs.Calls.Spots.{IsLeafSpot};
 ghost use Rattle.art_tree.specs.Leaves.{Has, bytes};
-ghost use Rattle.art_tree.specs.Longest.{longest};
-ghost use Rattle.art_tree.specs.Seeks.{number_within, ends, bound_len};
+ghost use Rattle.art_kinds.specs.Nodes.{at as nodes_at};
+ghost use Rattle.art_tree.specs.Invariant.Shape.{Shape};
+ghost use Rattle.art_tree.specs.Invariant.Sound.{IsSound};
 
-use crate::ids::{id_of, id_of_any};
-use crate::leaf_id::LeafId;
+use crate::lists::begins;
 use crate::tree::Tree;
-use art_slots::Visits;
+use crate::tree::descent::LeafSpot;
+use art_kinds::{Child, Nodes};
+use art_rows::Leaves;
+use art_slots::{LeafId, Visits};
 use blart_keys::AsBytes;
-use std::ops::Bound;
 
 impl<K: AsBytes, V, const PREFIX_LEN: usize> Tree<K, V, PREFIX_LEN> {
     /// Returns the pair with these bytes, and its leaf, or `None` if there is no such pair.
@@ -26,11 +30,15 @@ impl<K: AsBytes, V, const PREFIX_LEN: usize> Tree<K, V, PREFIX_LEN> {
         ensures some_counted { IfSome result (λ _. visits.old.count < visits.new.count) }
         ensures empty { self.now.pairs ≡ [] → visits.new.count ≡ visits.old.count }
     {
-        self.cells.law();
-        let Some(found) = self.cells.get(query, visits) else {
+        self.law();
+        let Some(found) = pair_below(&self.leaves, &self.nodes, &self.root, query, visits) else {
             return None;
         };
-        Some((id_of(&self.cells, found.0), found.1, found.2))
+        if found.1.as_bytes() == query {
+            Some(found)
+        } else {
+            None
+        }
     }
 
     /// Returns the pair whose bytes are a prefix of these, and its leaf, or `None` if there is no
@@ -46,11 +54,15 @@ impl<K: AsBytes, V, const PREFIX_LEN: usize> Tree<K, V, PREFIX_LEN> {
         ensures some_counted { IfSome result (λ _. visits.old.count < visits.new.count) }
         ensures empty { self.now.pairs ≡ [] → visits.new.count ≡ visits.old.count }
     {
-        self.cells.law();
-        let Some(found) = self.cells.get_front(query, visits) else {
+        self.law();
+        let Some(found) = pair_below(&self.leaves, &self.nodes, &self.root, query, visits) else {
             return None;
         };
-        Some((id_of(&self.cells, found.0), found.1, found.2))
+        if begins(found.1.as_bytes(), query) {
+            Some(found)
+        } else {
+            None
+        }
     }
 
     /// Returns the leaf with these bytes, or `None` if there is no such leaf.
@@ -92,43 +104,115 @@ impl<K: AsBytes, V, const PREFIX_LEN: usize> Tree<K, V, PREFIX_LEN> {
             None => None,
         }
     }
+}
 
-    /// Returns the first leaf within a start bound, or the last leaf within an end bound, or `None`
-    /// if there is no such leaf.
-    ///
-    /// Cost: at most (n + 2) * (L + 1) visits, if the bound has n bytes (0 if it is unbounded) and
-    /// the longest key has L bytes, and none on an empty tree.
-    pub fn seek(&self, bound: Bound<&[u8]>, is_start: bool, visits: &mut Visits) -> Option<LeafId>
-        ensures found { result
-            ≡ number_within (bytes K.bytes) self.now.pairs (bound_bytes (λ b. b) bound.entry)
-            is_start }
-        ensures counted { visits.new.count
-            ≤ visits.old.count + (bound_len (bound_bytes (λ b. b) bound.entry) + 2)
-            * (longest (bytes K.bytes) self.now.pairs + 1) }
-        ensures grows { visits.old.count ≤ visits.new.count }
-        ensures empty { self.now.pairs ≡ [] → visits.new.count ≡ visits.old.count }
-    {
-        self.cells.law();
-        id_of_any(&self.cells, self.cells.seek(bound, is_start, visits))
-    }
+/// Returns the only pair whose key may be a prefix of these bytes, and its leaf, or `None` if no
+/// key is.
+fn pair_below<'a, K: AsBytes, V, const P: usize>(
+    leaves: &'a Leaves<K, V>,
+    nodes: &Nodes<P>,
+    root: &Option<Child>,
+    query: &[u8],
+    visits: &mut Visits,
+) -> Option<(LeafId, &'a K, &'a V)>
+    requires { IsSound K.bytes P leaves.now nodes.now root.now }
+    ensures found { IsFrontAlone K.bytes leaves.now.pairs query.now
+        (option_map (λ f. (f.0, (f.1.now, f.2.now))) result) }
+    ensures counted { visits.new.count ≤ visits.old.count + length query.now + 1 }
+    ensures grows { visits.old.count ≤ visits.new.count }
+    ensures some_counted { IfSome result (λ _. visits.old.count < visits.new.count) }
+    ensures empty { leaves.now.pairs ≡ [] → visits.new.count ≡ visits.old.count }
+{
+    let Some(root) = root else {
+        return None;
+    };
+    let leaf = leaf_below(nodes, root, query, visits)?;
+    let (key, value) = leaves.read(leaf, visits);
+    Some((leaf, key, value))
+}
 
-    /// Returns the first and the last leaf whose bytes begin with these, or `None` if there are
-    /// none.
-    ///
-    /// Cost: at most (n + 3) * (L + 1) - 2 visits, if there are n bytes and the longest key has L
-    /// bytes, and none on an empty tree.
-    pub fn span(&self, front: &[u8], visits: &mut Visits) -> Option<(LeafId, LeafId)>
-        ensures found { result ≡ ends (under (bytes K.bytes) self.now.pairs front.now) }
-        ensures counted { visits.new.count + 2
-            ≤ visits.old.count + (length front.now + 3)
-            * (longest (bytes K.bytes) self.now.pairs + 1) }
-        ensures grows { visits.old.count ≤ visits.new.count }
-        ensures empty { self.now.pairs ≡ [] → visits.new.count ≡ visits.old.count }
-    {
-        self.cells.law();
-        let Some(cells) = self.cells.span(front, visits) else {
-            return None;
+/// Returns the only leaf whose key may be a prefix of the query, or `None` if no key is.
+fn leaf_below<const P: usize>(
+    nodes: &Nodes<P>,
+    root: &Child,
+    query: &[u8],
+    visits: &mut Visits,
+) -> Option<LeafId>
+    requires { IsRoot P (nodes_at nodes.now) root.now }
+    ensures goes { (keys : ℕ → Option Bytes) → Shape P keys (nodes_at nodes.now) (Some root.now)
+        → GoesTo keys query.now visits.old.count visits.new.count result }
+    ensures grows { visits.old.count ≤ visits.new.count }
+{
+    let mut below = *root;
+    'down: loop {
+        let id = match below {
+            Child::Leaf(id) => return Some(id),
+            Child::Inner(id) => id,
         };
-        Some((id_of(&self.cells, cells.0), id_of(&self.cells, cells.1)))
+        let node = nodes.read(id, visits);
+        let depth = node.depth();
+        if depth >= query.len() {
+            return None;
+        }
+        below = node.find(query[depth])?;
+    }
+}
+
+/// Returns the only pair whose key may be a prefix of these bytes, and the edges to its leaf, or
+/// `None` if no key is.
+pub(crate) fn pair_toward<'a, K: AsBytes, V, const P: usize>(
+    leaves: &'a Leaves<K, V>,
+    nodes: &Nodes<P>,
+    root: &Option<Child>,
+    query: &[u8],
+    visits: &mut Visits,
+) -> Option<(LeafSpot, &'a K, &'a V)>
+    requires { IsSound K.bytes P leaves.now nodes.now root.now }
+    ensures found { IsFrontAlone K.bytes leaves.now.pairs query.now
+        (option_map (λ f. (f.0.id, (f.1.now, f.2.now))) result) }
+    ensures spot { IfSome result (λ f. IsLeafSpot (nodes_at nodes.now) root.now f.0) }
+    ensures counted { visits.new.count ≤ visits.old.count + length query.now + 1 }
+    ensures grows { visits.old.count ≤ visits.new.count }
+    ensures empty { leaves.now.pairs ≡ [] → visits.new.count ≡ visits.old.count }
+{
+    let Some(root) = root else {
+        return None;
+    };
+    let spot = leaf_toward(nodes, root, query, visits)?;
+    let (key, value) = leaves.read(spot.id, visits);
+    Some((spot, key, value))
+}
+
+/// Returns the only leaf whose key may be a prefix of the query, with the edges to it, or `None` if
+/// no key is.
+fn leaf_toward<const P: usize>(
+    nodes: &Nodes<P>,
+    root: &Child,
+    query: &[u8],
+    visits: &mut Visits,
+) -> Option<LeafSpot>
+    requires { IsRoot P (nodes_at nodes.now) root.now }
+    ensures goes { (keys : ℕ → Option Bytes) → Shape P keys (nodes_at nodes.now) (Some root.now)
+        → GoesTo keys query.now visits.old.count visits.new.count (option_map (λ s. s.id) result) }
+    ensures spot { IfSome result (IsLeafSpot (nodes_at nodes.now) (Some root.now)) }
+    ensures grows { visits.old.count ≤ visits.new.count }
+{
+    let mut at = *root;
+    let mut edge = None;
+    let mut above = None;
+    'down: loop {
+        let id = match at {
+            Child::Leaf(id) => return Some(LeafSpot { id, edge, above }),
+            Child::Inner(id) => id,
+        };
+        let node = nodes.read(id, visits);
+        let depth = node.depth();
+        if depth >= query.len() {
+            return None;
+        }
+        let byte = query[depth];
+        at = node.find(byte)?;
+        above = edge;
+        edge = Some((id, byte));
     }
 }

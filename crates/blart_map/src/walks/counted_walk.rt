@@ -114,7 +114,7 @@ impl<'a, K: AsBytes, V, const PREFIX_LEN: usize> CountedWalk<'a, K, V, WithKeys,
             (λ id. (v : V) × (leaf_in (counted_map self.now).now id ≡ Some (result.now, v))) }
     {
         let id = self.lent.unwrap();
-        self.map.leaf_near(id, self.cursor.passed_at()).0
+        self.map.leaf(id).0
     }
 
     /// Returns the key of the value that was returned last, and a mutable reference to that value.
@@ -143,8 +143,7 @@ impl<'a, K: AsBytes, V, const PREFIX_LEN: usize> CountedWalk<'a, K, V, WithKeys,
     {
         self.map.numbers_law();
         let id = self.lent.unwrap();
-        let seen = self.cursor.passed_at();
-        self.map.leaf_mut_near(id, seen)
+        self.map.leaf_mut(id)
     }
 }
 
@@ -236,8 +235,7 @@ impl<'a, K: AsBytes, V, M, const PREFIX_LEN: usize> CountedWalk<'a, K, V, M, PRE
         let id = self.map.step(&mut self.cursor, &mut Visits::new())?;
         self.lent = Some(id);
         self.left -= 1;
-        let seen = self.cursor.passed_at();
-        Some(self.map.value_mut_near(id, seen))
+        Some(self.map.value_mut(id))
     }
 
     /// Returns a mutable reference to the last value that is left, or `None` if no value is left.
@@ -252,7 +250,6 @@ impl<'a, K: AsBytes, V, M, const PREFIX_LEN: usize> CountedWalk<'a, K, V, M, PRE
         let id = self.map.step_back(&mut self.cursor, &mut Visits::new())?;
         self.lent = Some(id);
         self.left -= 1;
-        let seen = self.cursor.passed_at();
-        Some(self.map.value_mut_near(id, seen))
+        Some(self.map.value_mut(id))
     }
 }

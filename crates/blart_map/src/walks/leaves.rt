@@ -15,7 +15,7 @@ ghost use Rattle.blart_map.specs.Passed.{WasFirst, WasLast, StaysLeft};
 
 use crate::map::TreeMap;
 use crate::walks::as_bytes;
-use art_tree::{LeafId, Position, Visits};
+use art_tree::{LeafId, Visits};
 use art_walk::Cursor;
 use blart_keys::AsBytes;
 use std::ops::Bound;
@@ -132,24 +132,14 @@ impl<K: AsBytes, V, const PREFIX_LEN: usize> TreeMap<K, V, PREFIX_LEN> {
         self.tree.leaf(id, &mut Visits::new())
     }
 
-    /// Returns the pair of a leaf. `seen` is a guess of the position of the leaf. If it is right,
-    /// the table that leads from ids to leaves is not read. One visit, not counted.
-    pub(crate) fn leaf_near(&self, id: LeafId, seen: Position) -> (&K, &V)
-        requires { Has self.now id }
-        ensures { leaf_in self.now id ≡ Some (result.0.now, result.1.now) }
-    {
-        self.tree.leaf_near(id, seen, &mut Visits::new())
-    }
-
-    /// Returns the key of a leaf, and a mutable reference to its value. `seen` is a guess of the
-    /// position of the leaf, as for [`TreeMap::leaf_near`].
-    pub(crate) fn leaf_mut_near(&mut self, id: LeafId, seen: Position) -> (&K, &mut V)
+    /// Returns the key of a leaf, and a mutable reference to its value.
+    pub(crate) fn leaf_mut(&mut self, id: LeafId) -> (&K, &mut V)
         requires { Has self.old id }
         ensures* writes_back { sem 𝓛
             (lends_leaf K.row V.row PREFIX_LEN.row K.AsBytes self.entry id result.1) }
         ensures value { leaf_in self.old id ≡ Some (result.0.now, result.1.now) }
     {
-        self.tree.leaf_mut_near(id, seen)
+        self.tree.leaf_mut(id)
     }
 
     /// Returns a mutable reference to the value of a leaf.
@@ -160,18 +150,6 @@ impl<K: AsBytes, V, const PREFIX_LEN: usize> TreeMap<K, V, PREFIX_LEN> {
         ensures value { option_map (λ p. p.1) (leaf_in self.old id) ≡ Some result.now }
     {
         self.tree.value_mut(id)
-    }
-
-    /// Returns a mutable reference to the value of a leaf. `seen` is a guess of the position of the
-    /// leaf, as for [`TreeMap::leaf_near`].
-    #[inline(always)]
-    pub(crate) fn value_mut_near(&mut self, id: LeafId, seen: Position) -> &mut V
-        requires { Has self.old id }
-        ensures* writes_back { sem 𝓛
-            (lends_leaf K.row V.row PREFIX_LEN.row K.AsBytes self.entry id result) }
-        ensures value { option_map (λ p. p.1) (leaf_in self.old id) ≡ Some result.now }
-    {
-        self.tree.leaf_mut_near(id, seen).1
     }
 }
 

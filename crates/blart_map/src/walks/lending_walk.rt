@@ -110,8 +110,7 @@ impl<'a, K: AsBytes, V, M, const PREFIX_LEN: usize> LendingWalk<'a, K, V, M, PRE
     {
         let id = self.map.step(&mut self.cursor, &mut Visits::new())?;
         self.lent = Some(id);
-        let seen = self.cursor.passed_at();
-        Some(self.map.value_mut_near(id, seen))
+        Some(self.map.value_mut(id))
     }
 
     /// Returns a mutable reference to the last value that is left, or `None` if no value is left.
@@ -125,8 +124,7 @@ impl<'a, K: AsBytes, V, M, const PREFIX_LEN: usize> LendingWalk<'a, K, V, M, PRE
     {
         let id = self.map.step_back(&mut self.cursor, &mut Visits::new())?;
         self.lent = Some(id);
-        let seen = self.cursor.passed_at();
-        Some(self.map.value_mut_near(id, seen))
+        Some(self.map.value_mut(id))
     }
 
     /// Returns the key of the value that was returned last. The walk must have returned a value.
@@ -138,7 +136,7 @@ impl<'a, K: AsBytes, V, M, const PREFIX_LEN: usize> LendingWalk<'a, K, V, M, PRE
             (λ id. (v : V) × (leaf_in (lending_map self.now).now id ≡ Some (result.now, v))) }
     {
         let id = self.lent.unwrap();
-        self.map.leaf_near(id, self.cursor.passed_at()).0
+        self.map.leaf(id).0
     }
 
     /// Returns the key of the value that was returned last, and a mutable reference to that value.
@@ -167,8 +165,7 @@ impl<'a, K: AsBytes, V, M, const PREFIX_LEN: usize> LendingWalk<'a, K, V, M, PRE
     {
         self.map.numbers_law();
         let id = self.lent.unwrap();
-        let seen = self.cursor.passed_at();
-        self.map.leaf_mut_near(id, seen)
+        self.map.leaf_mut(id)
     }
 
     /// Calls the closure once on the key and the value of each pair that is left, in byte order of

@@ -72,8 +72,7 @@ impl<'a, K: AsBytes, V, const PREFIX_LEN: usize> TakeWalk<'a, K, V, PREFIX_LEN> 
     {
         let id = self.map.step(&mut self.cursor, &mut Visits::new())?;
         self.lent = Some(id);
-        let seen = self.cursor.passed_at();
-        Some(self.map.value_mut_near(id, seen))
+        Some(self.map.value_mut(id))
     }
 
     /// Lends the last pair that is left, and returns a mutable reference to its value, or `None` if
@@ -88,8 +87,7 @@ impl<'a, K: AsBytes, V, const PREFIX_LEN: usize> TakeWalk<'a, K, V, PREFIX_LEN> 
     {
         let id = self.map.step_back(&mut self.cursor, &mut Visits::new())?;
         self.lent = Some(id);
-        let seen = self.cursor.passed_at();
-        Some(self.map.value_mut_near(id, seen))
+        Some(self.map.value_mut(id))
     }
 
     /// Returns the key of the lent pair. A pair must be undecided.
@@ -101,7 +99,7 @@ impl<'a, K: AsBytes, V, const PREFIX_LEN: usize> TakeWalk<'a, K, V, PREFIX_LEN> 
             (λ id. (v : V) × (leaf_in (take_map self.now).now id ≡ Some (result.now, v))) }
     {
         let id = self.lent.unwrap();
-        self.map.leaf_near(id, self.cursor.passed_at()).0
+        self.map.leaf(id).0
     }
 
     /// Returns the key of the lent pair, and a mutable reference to its value. A pair must be
@@ -118,8 +116,7 @@ impl<'a, K: AsBytes, V, const PREFIX_LEN: usize> TakeWalk<'a, K, V, PREFIX_LEN> 
     {
         self.map.numbers_law();
         let id = self.lent.unwrap();
-        let seen = self.cursor.passed_at();
-        self.map.leaf_mut_near(id, seen)
+        self.map.leaf_mut(id)
     }
 
     /// Keeps the lent pair in the map, with the value that was written. A pair must be undecided.

@@ -4,7 +4,7 @@ ghost use Rattle.std.specs.Prelude.{◌<◌};
 
 use super::byte_of;
 use art_kinds::{Child, Edge, Kind, NodeId, NodeRef, Nodes};
-use art_slots::{CellId, Visits};
+use art_slots::{LeafId, Visits};
 use std::process::Abort;
 
 /// The compressed prefix of the node, which keeps its first P bytes.
@@ -22,7 +22,7 @@ fn number_below(byte: u8) -> usize
 
 /// The leaf below a byte.
 fn leaf_below(byte: u8) -> Child {
-    Child::Leaf(CellId::new(number_below(byte)))
+    Child::Leaf(LeafId::new(number_below(byte)))
 }
 
 /// The number of a leaf. A node has one that no table has.

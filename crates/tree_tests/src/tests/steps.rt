@@ -33,7 +33,7 @@ fn pass<const P: usize>(
     let found = tree.search(&key_of(number), &mut visits);
     let found = found.expect(rt, "a pair");
     assert!(rt; steps.at == Some(found));
-    let (key, value) = tree.leaf_near(found, steps.seen, &mut visits);
+    let (key, value) = tree.leaf(found, &mut visits);
     assert!(rt; (*key, *value) == (key_of(number), number));
     steps.at = if is_forward {
         tree.next_from(found, &mut steps.seen)

@@ -16,11 +16,11 @@ pred-requires g c =
     let before = c.pairs.invariant.1 in
     let fits = c.in-Some.ensures.fits in
     let id = c.in-Some.id in
-    let k = c.leaf_mut_near-value.result.0.now in
-    let v = c.leaf_mut_near-value.result.1.now in
-    let named = c.leaf_mut_near-value.ensures.value in
+    let k = c.leaf_mut-value.result.0.now in
+    let v = c.leaf_mut-value.result.1.now in
+    let named = c.leaf_mut-value.ensures.value in
     let passed = c.in-Some.ensures.passes in
-    callable_first g.F.FnMut c.pairs.pred (k, v) (pairs_of (reverse (leaves_left old ps))) (pairs_of (reverse (leaves_left new ps))) (ap pairs_of (back_splits ps d old new before fits id k v v named passed)) c.pairs.invariant.0 c.leaf_mut_near-value.result.0 c.leaf_mut_near-value.result.1 refl refl
+    callable_first g.F.FnMut c.pairs.pred (k, v) (pairs_of (reverse (leaves_left old ps))) (pairs_of (reverse (leaves_left new ps))) (ap pairs_of (back_splits ps d old new before fits id k v v named passed)) c.pairs.invariant.0 c.leaf_mut-value.result.0 c.leaf_mut-value.result.1 refl refl
 
 pub remove-requires : goal.remove-requires
 remove-requires g c =
@@ -31,9 +31,9 @@ remove-requires g c =
     let before = c.pairs.invariant.1 in
     let fits = c.in-Some.ensures.fits in
     let id = c.in-Some.id in
-    let k = c.leaf_mut_near-value.result.0.now in
-    let v = c.leaf_mut_near-value.result.1.now in
-    let named = c.leaf_mut_near-value.ensures.value in
+    let k = c.leaf_mut-value.result.0.now in
+    let v = c.leaf_mut-value.result.1.now in
+    let named = c.leaf_mut-value.ensures.value in
     (lit< tt, has_with ps d old new before fits id k v c.pred.new.arg3 named)
 
 pub returns-then-pred : goal.returns-then-pred
@@ -45,14 +45,14 @@ returns-then-pred g c =
     let before = c.pairs.invariant.1 in
     let fits = c.in-Some.ensures.fits in
     let id = c.in-Some.id in
-    let k = c.leaf_mut_near-value.result.0.now in
-    let v = c.leaf_mut_near-value.result.1.now in
-    let named = c.leaf_mut_near-value.ensures.value in
+    let k = c.leaf_mut-value.result.0.now in
+    let v = c.leaf_mut-value.result.1.now in
+    let named = c.leaf_mut-value.ensures.value in
     let passed = c.in-Some.ensures.passes in
     let w = c.pred.new.arg3 in
     let rs = c.remove.new.self.pairs in
     let gone = c.remove.ensures.rest in
-    let called = called_at g.F.FnMut c.pairs.pred c.leaf_mut_near-value.result.0 c.leaf_mut_near-value.result.1 _ c.pred.result c.pred.new.self c.pred.ensures in
+    let called = called_at g.F.FnMut c.pairs.pred c.leaf_mut-value.result.0 c.leaf_mut-value.result.1 _ c.pred.result c.pred.new.self c.pred.ensures in
     let same = back_same_removed ps d old new before fits id k v w named passed rs gone in
     record {
       fits = back_fits_removed ps d old new before fits id k v w named passed rs gone;
@@ -70,9 +70,9 @@ pairs-smaller g c =
     let before = c.pairs.invariant.1 in
     let fits = c.in-Some.ensures.fits in
     let id = c.in-Some.id in
-    let k = c.leaf_mut_near-value.result.0.now in
-    let v = c.leaf_mut_near-value.result.1.now in
-    let named = c.leaf_mut_near-value.ensures.value in
+    let k = c.leaf_mut-value.result.0.now in
+    let v = c.leaf_mut-value.result.1.now in
+    let named = c.leaf_mut-value.ensures.value in
     let passed = c.in-Some.ensures.passes in
     let w = c.pred.new.arg3 in
     le_of_eq (ap suc (ap length (back_same ps d old new before fits id k v w named passed)) ∙ back_fewer ps d old new before fits id k v w named passed)
@@ -86,12 +86,12 @@ pairs-preserved g c =
     let before = c.pairs.invariant.1 in
     let fits = c.in-Some.ensures.fits in
     let id = c.in-Some.id in
-    let k = c.leaf_mut_near-value.result.0.now in
-    let v = c.leaf_mut_near-value.result.1.now in
-    let named = c.leaf_mut_near-value.ensures.value in
+    let k = c.leaf_mut-value.result.0.now in
+    let v = c.leaf_mut-value.result.1.now in
+    let named = c.leaf_mut-value.ensures.value in
     let passed = c.in-Some.ensures.passes in
     let w = c.pred.new.arg3 in
-    let called = called_at g.F.FnMut c.pairs.pred c.leaf_mut_near-value.result.0 c.leaf_mut_near-value.result.1 _ c.pred.result c.pred.new.self c.pred.ensures in
+    let called = called_at g.F.FnMut c.pairs.pred c.leaf_mut-value.result.0 c.leaf_mut-value.result.1 _ c.pred.result c.pred.new.self c.pred.ensures in
     let same = back_same ps d old new before fits id k v w named passed in (
       callable_others g.F.FnMut c.pairs.pred (k, v) (pairs_of (reverse (leaves_left old ps))) (pairs_of (reverse (leaves_left new ps))) (ap pairs_of (back_splits ps d old new before fits id k v w named passed)) c.pairs.invariant.0 c.pred.result w c.pred.new.self called _ (ap pairs_of (ap reverse same)),
       back_fits ps d old new before fits id k v w named passed,

@@ -26,32 +26,32 @@ pairs-init g c =
 pub f-requires : goal.f-requires
 f-requires g c =
     let ps = c.pairs.tree.pairs in
-    let lv = c.leaf_mut_near-value.result in
+    let lv = c.leaf_mut-value.result in
     let y : g.row.K.Denot × g.row.V.Denot = (lv.0.now, lv.1.now) in
-    let named = first_named ps c.pairs.invariant.2 c.pairs.cursor c.step.new.self c.pairs.invariant.1 c.in-Some.ensures.fits c.in-Some.id y c.leaf_mut_near-value.ensures.value c.in-Some.ensures.passes in
+    let named = first_named ps c.pairs.invariant.2 c.pairs.cursor c.step.new.self c.pairs.invariant.1 c.in-Some.ensures.fits c.in-Some.id y c.leaf_mut-value.ensures.value c.in-Some.ensures.passes in
     callable_first g.F.FnMut c.pairs.f y (pairs_of (leaves_left c.pairs.cursor ps)) (pairs_of (leaves_left c.step.new.self ps)) (ap pairs_of named) c.pairs.invariant.0 lv.0 lv.1 refl refl
 
 pub pairs-smaller-then-f : goal.pairs-smaller-then-f
 pairs-smaller-then-f g c =
     let ps = c.pairs.tree.pairs in
-    let lv = c.leaf_mut_near-value.result in
+    let lv = c.leaf_mut-value.result in
     let y : g.row.K.Denot × g.row.V.Denot = (lv.0.now, lv.1.now) in
-    let lacks = first_passed ps c.pairs.invariant.2 c.pairs.cursor c.step.new.self c.pairs.invariant.1 c.in-Some.ensures.fits c.in-Some.id y c.leaf_mut_near-value.ensures.value c.in-Some.ensures.passes in
-    let named = first_named ps c.pairs.invariant.2 c.pairs.cursor c.step.new.self c.pairs.invariant.1 c.in-Some.ensures.fits c.in-Some.id y c.leaf_mut_near-value.ensures.value c.in-Some.ensures.passes in
+    let lacks = first_passed ps c.pairs.invariant.2 c.pairs.cursor c.step.new.self c.pairs.invariant.1 c.in-Some.ensures.fits c.in-Some.id y c.leaf_mut-value.ensures.value c.in-Some.ensures.passes in
+    let named = first_named ps c.pairs.invariant.2 c.pairs.cursor c.step.new.self c.pairs.invariant.1 c.in-Some.ensures.fits c.in-Some.id y c.leaf_mut-value.ensures.value c.in-Some.ensures.passes in
     le_of_eq (ap suc (ap length (written_left ps c.pairs.invariant.2 c.step.new.self c.in-Some.ensures.fits c.in-Some.id y c.f.new.arg3 lacks)) ∙ sym (ap length named))
 
 pub pairs-preserved-then-f : goal.pairs-preserved-then-f
 pairs-preserved-then-f g c =
     let ps = c.pairs.tree.pairs in
-    let lv = c.leaf_mut_near-value.result in
+    let lv = c.leaf_mut-value.result in
     let y : g.row.K.Denot × g.row.V.Denot = (lv.0.now, lv.1.now) in
     let w = c.f.new.arg3 in
     let d = c.pairs.invariant.2 in
     let new = c.step.new.self in
     let fits = c.in-Some.ensures.fits in
     let id = c.in-Some.id in
-    let lacks = first_passed ps d c.pairs.cursor new c.pairs.invariant.1 fits id y c.leaf_mut_near-value.ensures.value c.in-Some.ensures.passes in
-    let named = first_named ps d c.pairs.cursor new c.pairs.invariant.1 fits id y c.leaf_mut_near-value.ensures.value c.in-Some.ensures.passes in
+    let lacks = first_passed ps d c.pairs.cursor new c.pairs.invariant.1 fits id y c.leaf_mut-value.ensures.value c.in-Some.ensures.passes in
+    let named = first_named ps d c.pairs.cursor new c.pairs.invariant.1 fits id y c.leaf_mut-value.ensures.value c.in-Some.ensures.passes in
     let asks = asks_at g.F.FnMut c.pairs.f lv.0 lv.1 _ c.f.result c.f.new.self c.f.ensures in
     let r = c.pairs.invariant.3 in
     let row = r.whole ∙ ap (λ l. r.kept ++ l) named in (
@@ -65,15 +65,15 @@ pairs-preserved-then-f g c =
 pub remove-pair-requires : goal.remove-pair-requires
 remove-pair-requires g c =
     let ps = c.pairs.tree.pairs in
-    let lv = c.leaf_mut_near-value.result in
+    let lv = c.leaf_mut-value.result in
     let y : g.row.K.Denot × g.row.V.Denot = (lv.0.now, lv.1.now) in
     let w = c.f.new.arg3 in
     let d = c.pairs.invariant.2 in
     let new = c.step.new.self in
     let fits = c.in-Some.ensures.fits in
     let id = c.in-Some.id in
-    let lacks = first_passed ps d c.pairs.cursor new c.pairs.invariant.1 fits id y c.leaf_mut_near-value.ensures.value c.in-Some.ensures.passes in
-    let named = first_named ps d c.pairs.cursor new c.pairs.invariant.1 fits id y c.leaf_mut_near-value.ensures.value c.in-Some.ensures.passes in
+    let lacks = first_passed ps d c.pairs.cursor new c.pairs.invariant.1 fits id y c.leaf_mut-value.ensures.value c.in-Some.ensures.passes in
+    let named = first_named ps d c.pairs.cursor new c.pairs.invariant.1 fits id y c.leaf_mut-value.ensures.value c.in-Some.ensures.passes in
     let r = c.pairs.invariant.3 in
     let row = r.whole ∙ ap (λ l. r.kept ++ l) named in
     (lit< tt, is_some (leaf_in (with_value ps id w) id) (y.0, w) (written_named ps d new fits id y w lacks r.kept (leaves_left new ps) row))
@@ -81,16 +81,16 @@ remove-pair-requires g c =
 pub pairs-smaller : goal.pairs-smaller
 pairs-smaller g c =
     let ps = c.pairs.tree.pairs in
-    let lv = c.leaf_mut_near-value.result in
+    let lv = c.leaf_mut-value.result in
     let y : g.row.K.Denot × g.row.V.Denot = (lv.0.now, lv.1.now) in
-    let lacks = first_passed ps c.pairs.invariant.2 c.pairs.cursor c.step.new.self c.pairs.invariant.1 c.in-Some.ensures.fits c.in-Some.id y c.leaf_mut_near-value.ensures.value c.in-Some.ensures.passes in
-    let named = first_named ps c.pairs.invariant.2 c.pairs.cursor c.step.new.self c.pairs.invariant.1 c.in-Some.ensures.fits c.in-Some.id y c.leaf_mut_near-value.ensures.value c.in-Some.ensures.passes in
+    let lacks = first_passed ps c.pairs.invariant.2 c.pairs.cursor c.step.new.self c.pairs.invariant.1 c.in-Some.ensures.fits c.in-Some.id y c.leaf_mut-value.ensures.value c.in-Some.ensures.passes in
+    let named = first_named ps c.pairs.invariant.2 c.pairs.cursor c.step.new.self c.pairs.invariant.1 c.in-Some.ensures.fits c.in-Some.id y c.leaf_mut-value.ensures.value c.in-Some.ensures.passes in
     le_of_eq (ap suc (ap length (removed_left ps c.pairs.invariant.2 c.step.new.self c.in-Some.ensures.fits c.in-Some.id y c.f.new.arg3 lacks c.remove-pair.new.self.pairs c.remove-pair.ensures.rest)) ∙ sym (ap length named))
 
 pub pairs-preserved : goal.pairs-preserved
 pairs-preserved g c =
     let ps = c.pairs.tree.pairs in
-    let lv = c.leaf_mut_near-value.result in
+    let lv = c.leaf_mut-value.result in
     let y : g.row.K.Denot × g.row.V.Denot = (lv.0.now, lv.1.now) in
     let w = c.f.new.arg3 in
     let d = c.pairs.invariant.2 in
@@ -99,8 +99,8 @@ pairs-preserved g c =
     let id = c.in-Some.id in
     let rs = c.remove-pair.new.self.pairs in
     let gone = c.remove-pair.ensures.rest in
-    let lacks = first_passed ps d c.pairs.cursor new c.pairs.invariant.1 fits id y c.leaf_mut_near-value.ensures.value c.in-Some.ensures.passes in
-    let named = first_named ps d c.pairs.cursor new c.pairs.invariant.1 fits id y c.leaf_mut_near-value.ensures.value c.in-Some.ensures.passes in
+    let lacks = first_passed ps d c.pairs.cursor new c.pairs.invariant.1 fits id y c.leaf_mut-value.ensures.value c.in-Some.ensures.passes in
+    let named = first_named ps d c.pairs.cursor new c.pairs.invariant.1 fits id y c.leaf_mut-value.ensures.value c.in-Some.ensures.passes in
     let asks = asks_at g.F.FnMut c.pairs.f lv.0 lv.1 _ c.f.result c.f.new.self c.f.ensures in
     let r = c.pairs.invariant.3 in
     let row = r.whole ∙ ap (λ l. r.kept ++ l) named in (

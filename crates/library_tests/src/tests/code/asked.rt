@@ -67,11 +67,10 @@ impl<'a> AsBytes for Asked<'a> {
 type Map<'a, const P: usize> = TreeMap<Asked<'a>, usize, P>;
 
 /// Makes a thousand insertions. Each but the first reads the bytes of the new key, and of at most
-/// one stored key, or of two if the nodes keep less than two bytes of a prefix. If it splits a full
-/// row, it may also read the keys of the 32 leaves that move. The first one need not read its own
-/// key.
+/// one stored key, or of two if the nodes keep less than two bytes of a prefix. The first one need
+/// not read its own key.
 fn put_thousand<'a, const P: usize>(rt: &impl Abort, map: &mut Map<'a, P>, tally: &'a Cell<Tally>) {
-    let most = if P < 2 { 35 } else { 34 };
+    let most = if P < 2 { 3 } else { 2 };
     for place in 0..1000 {
         begin_round(tally);
         let key = Asked {
@@ -136,8 +135,8 @@ fn asks_few<const P: usize>(rt: &(impl Abort + AllocGlobal)) {
 }
 
 /// With a thousand keys of three bytes, a look-up asks stored keys for their bytes at most four
-/// times. An insertion asks at most 34 keys, one of them its own and 32 that move if it cuts a full
-/// row. It asks at most 35 if nodes keep at most one byte.
+/// times. An insertion asks at most two keys, one of them its own, or three if nodes keep at most
+/// one byte.
 #[test]
 fn a_map_asks_few_keys(rt: HostRuntime) {
     asks_few::<0>(&rt);

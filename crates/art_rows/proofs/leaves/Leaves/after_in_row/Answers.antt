@@ -1,5 +1,4 @@
 use Rattle.std.proofs.Common.{◌≡◌, ◌+◌, ◌<◌, ◌≤◌, Some, sym, ap, ◌∙◌, length, arith}
-use Rattle.std.specs.Prelude.{option_map}
 use Rattle.art_rows.specs.Numbers.{leaf_in, number_after}
 use Rattle.art_rows.specs.Rows.{nth}
 use Rattle.art_rows.proofs.FilingLemmas.{seen, after_there, if_some}
@@ -9,14 +8,14 @@ use Rattle.art_rows.proofs.leaves.Leaves.after_in_row.Goals as goal
 pub returns-clause-after : goal.returns-clause-after
 returns-clause-after g c =
     let p = c.args.seen in
-    let ids = c.in_ok-row.row.now in
-    let there : leaf_in c.self.inside.rows.pairs p.row ≡ Some ids = sym c.get.ensures ∙ ap (option_map (λ r. r.now)) c.in_ok-row.was in
+    let ids = c.in_ok-row.row in
+    let there : leaf_in c.self.inside.rows.pairs p.row ≡ Some ids = sym c.get.ensures ∙ c.in_ok-row.was in
     if_some c.after.result (λ n. (nth ids p.place ≡ Some c.args.id) × (nth ids (p.place + 1) ≡ Some n)) (λ n. number_after c.args.self.now.pairs c.args.id ≡ Some n)
-    (λ n h. after_there (seen c.self.inside c.self.view_is c.self.invariant) c.args.id n c.requires p ids there h.0 h.1) (rw c.run.ensures at c.after.ensures.some)
+    (λ n h. after_there (seen c.self.inside c.self.view_is c.self.invariant) c.args.id n c.requires p ids there h.0 h.1) (c.after.ensures.some)
 
 pub returns-clause-within : goal.returns-clause-within
 returns-clause-within g c =
     let p = c.args.seen in
-    let ids = c.in_ok-row.row.now in
+    let ids = c.in_ok-row.row in
     if_some c.after.result (λ n. (nth ids p.place ≡ Some c.args.id) × (nth ids (p.place + 1) ≡ Some n)) (λ _. p.place < 64)
-    (λ n h. let w : p.place < length ids = nth-within ids p.place c.args.id h.0 in let l : length ids ≤ 64 = c.len-len.ensures.fits in omega arith) (rw c.run.ensures at c.after.ensures.some)
+    (λ n h. let w : p.place < length ids = nth-within ids p.place c.args.id h.0 in let l : length ids ≤ 64 = c.len-len.ensures.fits in omega arith) (c.after.ensures.some)

@@ -1,5 +1,4 @@
 use Rattle.std.proofs.Common.{◌≡◌, ◌-◌, ◌<◌, Some, sym, ap, ◌∙◌}
-use Rattle.std.specs.Prelude.{option_map}
 use Rattle.art_rows.specs.Numbers.{leaf_in, number_before}
 use Rattle.art_rows.specs.Rows.{nth}
 use Rattle.art_rows.proofs.FilingLemmas.{seen, before_there, if_some}
@@ -8,7 +7,7 @@ use Rattle.art_rows.proofs.leaves.Leaves.before_in_row.Goals as goal
 pub returns-clause-before : goal.returns-clause-before
 returns-clause-before g c =
     let p = c.args.seen in
-    let ids = c.in_ok-row.row.now in
-    let there : leaf_in c.self.inside.rows.pairs p.row ≡ Some ids = sym c.get.ensures ∙ ap (option_map (λ r. r.now)) c.in_ok-row.was in
+    let ids = c.in_ok-row.row in
+    let there : leaf_in c.self.inside.rows.pairs p.row ≡ Some ids = sym c.get.ensures ∙ c.in_ok-row.was in
     if_some c.before-2.result (λ n. (0 < p.place) × (nth ids p.place ≡ Some c.args.id) × (nth ids (p.place - 1) ≡ Some n)) (λ n. number_before c.args.self.now.pairs c.args.id ≡ Some n)
-    (λ n h. before_there (seen c.self.inside c.self.view_is c.self.invariant) c.args.id n c.requires p ids there h.0 h.1 h.2) (rw c.run.ensures at c.before-2.ensures.some)
+    (λ n h. before_there (seen c.self.inside c.self.view_is c.self.invariant) c.args.id n c.requires p ids there h.0 h.1 h.2) (c.before-2.ensures.some)

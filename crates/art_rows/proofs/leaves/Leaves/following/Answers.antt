@@ -4,7 +4,7 @@ use Rattle.art_rows.specs.Numbers.{leaf_in}
 use Rattle.art_rows.specs.Rows.{nth, position_at}
 use Rattle.art_rows.proofs.FilingLemmas.{seen, seen_rows, has_row_at, place_at, number_there}
 use Rattle.art_rows.proofs.RowsLemmas.{among-numbers, nth-place}
-use Rattle.art_rows.proofs.Runs.{following_there}
+use Rattle.art_rows.proofs.Runs.{following_there, unknown_follows}
 use Rattle.art_rows.proofs.leaves.Leaves.following.Goals as goal
 
 pub read-requires : goal.read-requires
@@ -12,17 +12,20 @@ read-requires g c =
     let f = seen c.self.inside c.self.view_is c.self.invariant in
     has_row_at f _ c.position_of-position.result (ap (λ t. position_at t.rows (index_of c.args.self.now.pairs c.args.id)) c.self.view_is ∙ c.position_of-position.ensures)
 
-pub run_after-run-requires : goal.run_after-run-requires
-run_after-run-requires g c =
+pub run_after-requires : goal.run_after-requires
+run_after-requires g c =
     let f = seen c.self.inside c.self.view_is c.self.invariant in
-    rw c.run.ensures (place_at f _ c.position_of-position.result (ap (λ t. position_at t.rows (index_of c.args.self.now.pairs c.args.id)) c.self.view_is ∙ c.position_of-position.ensures) _ c.read.ensures)
+    place_at f _ c.position_of-position.result (ap (λ t. position_at t.rows (index_of c.args.self.now.pairs c.args.id)) c.self.view_is ∙ c.position_of-position.ensures) _ c.read.ensures
 
-pub returns : goal.returns
-returns g c =
+pub returns-in-None : goal.returns-in-None
+returns-in-None g c = rw c.unknown.ensures (unknown_follows c.args.self.now.pairs c.args.self.now.rows c.args.id)
+
+pub returns-in-Some : goal.returns-in-Some
+returns-in-Some g c =
     let f = seen_rows c.self.inside c.self.view_is c.self.invariant in
     let ps = c.args.self.now.pairs in
     let k : ℕ = index_of ps c.args.id in
     let p = c.position_of-position.result in
-    let is : leaf_in c.args.self.now.rows p.row ≡ Some c.read.result.now = rw (← ap (λ t. t.rows) c.self.view_is) c.read.ensures in
-    let there : nth c.read.result.now p.place ≡ Some c.args.id = sym (number_there f k p c.position_of-position.ensures c.read.result.now is) ∙ nth-place (map (λ q. q.0) ps) c.args.id (among-numbers ps c.args.id c.requires) in
-    following_there f k p c.position_of-position.ensures c.read.result.now is c.args.id there (record { run = c.run_after-run.result; row = c.row_told-row.result }) (rw c.run.ensures at c.run_after-run.ensures) c.row_told-row.ensures
+    let is : leaf_in c.args.self.now.rows p.row ≡ Some c.read.result = rw (← ap (λ t. t.rows) c.self.view_is) c.read.ensures in
+    let there : nth c.read.result p.place ≡ Some c.args.id = sym (number_there f k p c.position_of-position.ensures c.read.result is) ∙ nth-place (map (λ q. q.0) ps) c.args.id (among-numbers ps c.args.id c.requires) in
+    following_there f k p c.position_of-position.ensures c.read.result is c.args.id there (record { run = c.in-Some.run'; row = c.row_told-row.result }) c.in-Some.ensures c.row_told-row.ensures

@@ -10,7 +10,7 @@ read-requires g c = has_row_at (seen c.self.inside c.self.view_is c.self.invaria
 pub overflow_add-place : goal.overflow_add-place
 overflow_add-place g c =
     let f = seen c.self.inside c.self.view_is c.self.invariant in
-    let w : c.args.position.place < length c.read.result.now = place_at f c.requires.0 c.args.position (rw (← c.self.view_is) at c.requires.1) _ c.read.ensures in
+    let w : c.args.position.place < length c.read.result = place_at f c.requires.0 c.args.position (rw (← c.self.view_is) at c.requires.1) _ c.read.ensures in
     search rules
 
 pub returns-then-place-len : goal.returns-then-place-len

@@ -1,41 +1,25 @@
-use Rattle.std.proofs.Common.{inl, inr, ◌⊎◌, ◌≡◌, ◌≢◌, ◌≤◌, ℕ, List, length, Option, Some, None, sym, ◌∙◌, arith}
-use Rattle.std.specs.Prelude.{IfSome, IfNone}
+use Rattle.std.proofs.Common.{◌≡◌, ◌≤◌, ℕ, List, length, sym, ◌∙◌, arith}
+use Rattle.std.specs.Prelude.{IfSome}
 use Rattle.art_rows.specs.Numbers.{Numbered, AreDistinct, leaf_in}
-use Rattle.art_rows.specs.Rows.{IsSpot, lengths, position_at}
-use Rattle.art_rows.specs.Blocks.{row_of}
+use Rattle.art_rows.specs.Rows.{IsSpot, lengths}
 use Rattle.art_rows.specs.declared.row.Position.{Position}
 use Rattle.art_rows.proofs.FilingLemmas.{seen_rows}
-use Rattle.art_rows.proofs.RowsLemmas.{standing}
+use Rattle.art_rows.proofs.NumbersLemmas.{Has-after}
 use Rattle.art_rows.proofs.RowRoomLemmas.{room_spare, room_less, load_starts}
 use Rattle.art_rows.proofs.Rooms.{spot_has, spot_ids, spot_put, spot_end, spot_front, spot_next, front_turns, end_turns, spare_full}
 use Rattle.art_rows.proofs.RowChanges.{spot-row}
-use Rattle.art_rows.proofs.Crowds.{is_full, in_front, at_end, no_place}
+use Rattle.art_rows.proofs.Crowds.{is_full, in_front}
 use Rattle.art_rows.proofs.leaves.Leaves.insert.Goals as goal
 
 -- the row of a spot is full if it has at least 64 numbers
 full_row : {rows : List (Numbered (List ℕ))} {k : ℕ} {p : Position} (s : IsSpot rows p k) → AreDistinct rows → (n : ℕ) → IfSome (leaf_in rows p.row) (λ ids. n ≡ length ids) → n ≤ 64 → 64 ≤ n → length s.ids ≡ 64
 full_row {rows} {k} {p} s d n len most least = spot_ids s d (λ ids. length ids ≡ 64) (is_full (leaf_in rows p.row) n len most least)
 
--- if the place is not the first of its row, the pair comes after a leaf
-not_first : (rows : List (Numbered (List ℕ))) (prev : Option ℕ) (p : Position) → IfNone prev (Some p ≡ position_at rows 0) → p.place ≢ 0 → IfNone prev ⊥
-not_first rows (Some i) p e z = tt
-not_first rows None p e z = z (let s = standing rows 0 p (sym e) in let i = s.index in omega arith)
-
--- if one of two facts holds, and the second is false, the first holds
-with_room : {A B : Type 0} → A ⊎ B → (B → ⊥) → A
-with_room (inl a) off = a
-with_room (inr b) off = absurd (off b)
-
 pub row_len-requires : goal.row_len-requires
 row_len-requires g c =
     let f = seen_rows c.self.inside c.self.view_is c.self.invariant in
-    spot_has c.in-Some.ensures.some f.apart
-
-pub returns-then-row_len-lt-ROW-clause-turns : goal.returns-then-row_len-lt-ROW-clause-turns
-returns-then-row_len-lt-ROW-clause-turns g c =
-    let f = seen_rows c.self.inside c.self.view_is c.self.invariant in
     let s = c.in-Some.ensures.some in
-    rw c.put.ensures.spare_rows (spot_put s f.apart c.put.new.self.rows c.put.result c.args.self.now.spare_rows c.put.ensures.rows)
+    spot_has s f.apart
 
 pub returns-then-row_len-lt-ROW-clause-room : goal.returns-then-row_len-lt-ROW-clause-room
 returns-then-row_len-lt-ROW-clause-room g c =
@@ -54,25 +38,12 @@ begin-requires-then-position-eq0-clause-spare_rows g c =
     let s = c.in-Some.ensures.some in
     let at = spot-row c.args.self.now.rows _ c.in-Some.position s f.apart in
     let full = full_row s f.apart c.row_len.result c.row_len.ensures.len c.row_len.ensures.fits c.if-row_len-lt-ROW.false in
-    let front = in_front f c.args.prev c.requires.prev c.in-Some.position c.in-Some.ensures.after c.if-position-eq0.true in
+    let front = in_front c.args.prev c.args.self.now.pairs c.in-Some.position.place c.in-Some.ensures.later c.if-position-eq0.true in
     let starts = spot_front s f.apart front f.filled full in
-    let room = with_room c.requires.room (no_place c.args.self.now.rows c.args.prev c.in-Some.position c.in-Some.ensures.after s.ids at full) in
-    room_spare (lengths c.args.self.now.rows) c.args.self.now.spare_rows (load_starts (lengths c.args.self.now.rows) starts) room
+    room_spare (lengths c.args.self.now.rows) c.args.self.now.spare_rows (load_starts (lengths c.args.self.now.rows) starts) c.requires.room
 
 pub begin-requires-then-position-eq0-clause-index : goal.begin-requires-then-position-eq0-clause-index
-begin-requires-then-position-eq0-clause-index g c =
-    in_front (seen_rows c.self.inside c.self.view_is c.self.invariant) c.args.prev c.requires.prev c.in-Some.position c.in-Some.ensures.after c.if-position-eq0.true
-
-pub returns-then-position-eq0-clause-turns : goal.returns-then-position-eq0-clause-turns
-returns-then-position-eq0-clause-turns g c =
-    let f = seen_rows c.self.inside c.self.view_is c.self.invariant in
-    let s = c.in-Some.ensures.some in
-    let at = spot-row c.args.self.now.rows _ c.in-Some.position s f.apart in
-    let full = full_row s f.apart c.row_len.result c.row_len.ensures.len c.row_len.ensures.fits c.if-row_len-lt-ROW.false in
-    let front = in_front f c.args.prev c.requires.prev c.in-Some.position c.in-Some.ensures.after c.if-position-eq0.true in
-    let starts = spot_front s f.apart front f.filled full in
-    let b = c.begin-then-position-eq0 in
-    front_turns c.args.self.now.rows b.new.self.rows (row_of b.result) b.result c.args.self.now.spare_rows b.new.self.spare_rows starts b.ensures.rows.0 b.ensures.spare_rows
+begin-requires-then-position-eq0-clause-index g c = in_front c.args.prev c.args.self.now.pairs c.in-Some.position.place c.in-Some.ensures.later c.if-position-eq0.true
 
 pub returns-then-position-eq0-clause-room : goal.returns-then-position-eq0-clause-room
 returns-then-position-eq0-clause-room g c =
@@ -80,21 +51,13 @@ returns-then-position-eq0-clause-room g c =
     let s = c.in-Some.ensures.some in
     let at = spot-row c.args.self.now.rows _ c.in-Some.position s f.apart in
     let full = full_row s f.apart c.row_len.result c.row_len.ensures.len c.row_len.ensures.fits c.if-row_len-lt-ROW.false in
-    let front = in_front f c.args.prev c.requires.prev c.in-Some.position c.in-Some.ensures.after c.if-position-eq0.true in
+    let front = in_front c.args.prev c.args.self.now.pairs c.in-Some.position.place c.in-Some.ensures.later c.if-position-eq0.true in
     let starts = spot_front s f.apart front f.filled full in
     let b = c.begin-then-position-eq0 in
     let o = c.args.self.now in
     let n = b.new.self in
     let e = b.ensures.spare_rows in
-    room_less (lengths o.rows) (lengths n.rows) o.spare_rows n.spare_rows (omega arith) (front_turns c.args.self.now.rows b.new.self.rows (row_of b.result) b.result c.args.self.now.spare_rows b.new.self.spare_rows starts b.ensures.rows.0 b.ensures.spare_rows)
-
-pub returns-then-position-eq0-clause-kept : goal.returns-then-position-eq0-clause-kept
-returns-then-position-eq0-clause-kept g c =
-    let f = seen_rows c.self.inside c.self.view_is c.self.invariant in
-    let s = c.in-Some.ensures.some in
-    let at = spot-row c.args.self.now.rows _ c.in-Some.position s f.apart in
-    let full = full_row s f.apart c.row_len.result c.row_len.ensures.len c.row_len.ensures.fits c.if-row_len-lt-ROW.false in
-    λ h. absurd (no_place c.args.self.now.rows c.args.prev c.in-Some.position c.in-Some.ensures.after s.ids at full h)
+    room_less (lengths o.rows) (lengths n.rows) o.spare_rows n.spare_rows (omega arith) (front_turns o.rows n.rows b.ensures.rows.0 b.result o.spare_rows n.spare_rows starts b.ensures.rows.2 e)
 
 -- ---- at the end of a full row
 
@@ -110,8 +73,7 @@ begin-requires-in-None-row_after-clause-spare_rows g c =
     let s = c.in-Some.ensures.some in
     let at = spot-row c.args.self.now.rows _ c.in-Some.position s f.apart in
     let full = full_row s f.apart c.row_len.result c.row_len.ensures.len c.row_len.ensures.fits c.if-row_len-lt-ROW.false in
-    let room = with_room c.requires.room (no_place c.args.self.now.rows c.args.prev c.in-Some.position c.in-Some.ensures.after s.ids at full) in
-    spare_full c.args.self.now.rows c.in-Some.position.row s.ids at full c.args.self.now.spare_rows room
+    spare_full c.args.self.now.rows c.in-Some.position.row s.ids at full c.args.self.now.spare_rows c.requires.room
 
 pub begin-requires-in-None-row_after-clause-prev_row : goal.begin-requires-in-None-row_after-clause-prev_row
 begin-requires-in-None-row_after-clause-prev_row g c =
@@ -125,27 +87,8 @@ begin-requires-in-None-row_after-clause-index g c =
     let s = c.in-Some.ensures.some in
     let at = spot-row c.args.self.now.rows _ c.in-Some.position s f.apart in
     let full = full_row s f.apart c.row_len.result c.row_len.ensures.len c.row_len.ensures.fits c.if-row_len-lt-ROW.false in
-    let some = not_first c.args.self.now.rows c.args.prev c.in-Some.position c.in-Some.ensures.first c.if-position-eq0.false in
-    let e = at_end f c.args.prev some c.in-Some.position c.in-Some.ensures.after c.requires.way s.ids at full in
-    spot_end s f.apart (e.0 ∙ sym full)
-
-pub returns-in-None-row_after-clause-turns : goal.returns-in-None-row_after-clause-turns
-returns-in-None-row_after-clause-turns g c =
-    let f = seen_rows c.self.inside c.self.view_is c.self.invariant in
-    let s = c.in-Some.ensures.some in
-    let at = spot-row c.args.self.now.rows _ c.in-Some.position s f.apart in
-    let full = full_row s f.apart c.row_len.result c.row_len.ensures.len c.row_len.ensures.fits c.if-row_len-lt-ROW.false in
-    let b = c.begin-in-None-row_after in
-    let none = sym c.row_after.ensures ∙ c.in-None-row_after.is in
-    end_turns c.args.self.now.rows c.in-Some.position.row s.ids at full none b.new.self.rows (row_of b.result) b.result c.args.self.now.spare_rows b.new.self.spare_rows b.ensures.rows.0 b.ensures.spare_rows
-
-pub returns-in-None-row_after-clause-kept : goal.returns-in-None-row_after-clause-kept
-returns-in-None-row_after-clause-kept g c =
-    let f = seen_rows c.self.inside c.self.view_is c.self.invariant in
-    let s = c.in-Some.ensures.some in
-    let at = spot-row c.args.self.now.rows _ c.in-Some.position s f.apart in
-    let full = full_row s f.apart c.row_len.result c.row_len.ensures.len c.row_len.ensures.fits c.if-row_len-lt-ROW.false in
-    λ h. absurd (no_place c.args.self.now.rows c.args.prev c.in-Some.position c.in-Some.ensures.after s.ids at full h)
+    let end = spot_end s f.apart (omega (arith, s.within, c.if-position-lt-ROW.false)) in
+    end
 
 pub returns-in-None-row_after-clause-room : goal.returns-in-None-row_after-clause-room
 returns-in-None-row_after-clause-room g c =
@@ -158,7 +101,10 @@ returns-in-None-row_after-clause-room g c =
     let o = c.args.self.now in
     let n = b.new.self in
     let q = b.ensures.spare_rows in
-    room_less (lengths o.rows) (lengths n.rows) o.spare_rows n.spare_rows (omega arith) (end_turns c.args.self.now.rows c.in-Some.position.row s.ids at full none b.new.self.rows (row_of b.result) b.result c.args.self.now.spare_rows b.new.self.spare_rows b.ensures.rows.0 b.ensures.spare_rows)
+    room_less (lengths o.rows) (lengths n.rows) o.spare_rows n.spare_rows (omega arith) (end_turns o.rows c.in-Some.position.row s.ids at full none n.rows b.ensures.rows.0 b.result o.spare_rows n.spare_rows b.ensures.rows.2 q)
+
+pub row_len-requires-in-Some-row_after : goal.row_len-requires-in-Some-row_after
+row_len-requires-in-Some-row_after g c = Has-after c.args.self.now.rows c.in-Some.position.row c.in-Some-row_after.next (sym c.row_after.ensures ∙ c.in-Some-row_after.is)
 
 pub put-requires-in-Some-row_after-clause-spot : goal.put-requires-in-Some-row_after-clause-spot
 put-requires-in-Some-row_after-clause-spot g c =
@@ -166,34 +112,8 @@ put-requires-in-Some-row_after-clause-spot g c =
     let s = c.in-Some.ensures.some in
     let at = spot-row c.args.self.now.rows _ c.in-Some.position s f.apart in
     let full = full_row s f.apart c.row_len.result c.row_len.ensures.len c.row_len.ensures.fits c.if-row_len-lt-ROW.false in
-    let some = not_first c.args.self.now.rows c.args.prev c.in-Some.position c.in-Some.ensures.first c.if-position-eq0.false in
-    let e = at_end f c.args.prev some c.in-Some.position c.in-Some.ensures.after c.requires.way s.ids at full in
-    let next = sym c.row_after.ensures ∙ c.in-Some-row_after.is in
-    let t = spot_next c.args.self.now.rows f.apart c.in-Some.position.row _ c.in-Some-row_after.next (spot_has s f.apart) (spot_end s f.apart (e.0 ∙ sym full)) next in
-    t
-
-pub put-requires-in-Some-row_after-clause-room : goal.put-requires-in-Some-row_after-clause-room
-put-requires-in-Some-row_after-clause-room g c =
-    let f = seen_rows c.self.inside c.self.view_is c.self.invariant in
-    let s = c.in-Some.ensures.some in
-    let at = spot-row c.args.self.now.rows _ c.in-Some.position s f.apart in
-    let full = full_row s f.apart c.row_len.result c.row_len.ensures.len c.row_len.ensures.fits c.if-row_len-lt-ROW.false in
-    let some = not_first c.args.self.now.rows c.args.prev c.in-Some.position c.in-Some.ensures.first c.if-position-eq0.false in
-    let e = at_end f c.args.prev some c.in-Some.position c.in-Some.ensures.after c.requires.way s.ids at full in
-    rw (sym c.row_after.ensures ∙ c.in-Some-row_after.is) at e.1
-
-pub returns-in-Some-row_after-clause-turns : goal.returns-in-Some-row_after-clause-turns
-returns-in-Some-row_after-clause-turns g c =
-    let f = seen_rows c.self.inside c.self.view_is c.self.invariant in
-    let s = c.in-Some.ensures.some in
-    let at = spot-row c.args.self.now.rows _ c.in-Some.position s f.apart in
-    let full = full_row s f.apart c.row_len.result c.row_len.ensures.len c.row_len.ensures.fits c.if-row_len-lt-ROW.false in
-    let some = not_first c.args.self.now.rows c.args.prev c.in-Some.position c.in-Some.ensures.first c.if-position-eq0.false in
-    let e = at_end f c.args.prev some c.in-Some.position c.in-Some.ensures.after c.requires.way s.ids at full in
-    let next = sym c.row_after.ensures ∙ c.in-Some-row_after.is in
-    let t = spot_next c.args.self.now.rows f.apart c.in-Some.position.row _ c.in-Some-row_after.next (spot_has s f.apart) (spot_end s f.apart (e.0 ∙ sym full)) next in
-    let b = c.put-in-Some-row_after in
-    rw b.ensures.spare_rows (spot_put t f.apart b.new.self.rows b.result c.args.self.now.spare_rows b.ensures.rows)
+    let end = spot_end s f.apart (omega (arith, s.within, c.if-position-lt-ROW.false)) in
+    spot_next c.args.self.now.rows f.apart c.in-Some.position.row _ c.in-Some-row_after.next (spot_has s f.apart) end (sym c.row_after.ensures ∙ c.in-Some-row_after.is)
 
 pub returns-in-Some-row_after-clause-room : goal.returns-in-Some-row_after-clause-room
 returns-in-Some-row_after-clause-room g c =
@@ -201,12 +121,10 @@ returns-in-Some-row_after-clause-room g c =
     let s = c.in-Some.ensures.some in
     let at = spot-row c.args.self.now.rows _ c.in-Some.position s f.apart in
     let full = full_row s f.apart c.row_len.result c.row_len.ensures.len c.row_len.ensures.fits c.if-row_len-lt-ROW.false in
-    let some = not_first c.args.self.now.rows c.args.prev c.in-Some.position c.in-Some.ensures.first c.if-position-eq0.false in
-    let e = at_end f c.args.prev some c.in-Some.position c.in-Some.ensures.after c.requires.way s.ids at full in
-    let next = sym c.row_after.ensures ∙ c.in-Some-row_after.is in
-    let t = spot_next c.args.self.now.rows f.apart c.in-Some.position.row _ c.in-Some-row_after.next (spot_has s f.apart) (spot_end s f.apart (e.0 ∙ sym full)) next in
+    let end = spot_end s f.apart (omega (arith, s.within, c.if-position-lt-ROW.false)) in
+    let t = spot_next c.args.self.now.rows f.apart c.in-Some.position.row _ c.in-Some-row_after.next (spot_has s f.apart) end (sym c.row_after.ensures ∙ c.in-Some-row_after.is) in
     let b = c.put-in-Some-row_after in
     let o = c.args.self.now in
     let n = b.new.self in
     let q = b.ensures.spare_rows in
-    room_less (lengths o.rows) (lengths n.rows) o.spare_rows n.spare_rows (omega arith) (rw b.ensures.spare_rows (spot_put t f.apart b.new.self.rows b.result c.args.self.now.spare_rows b.ensures.rows))
+    room_less (lengths o.rows) (lengths n.rows) o.spare_rows n.spare_rows (omega arith) (rw q (spot_put t f.apart n.rows b.result o.spare_rows b.ensures.rows))

@@ -6,8 +6,8 @@ pub read-requires : goal.read-requires
 read-requires g c = has_row_at (seen c.self.inside c.self.view_is c.self.invariant) c.requires.0 c.args.position (rw (← c.self.view_is) at c.requires.1)
 
 pub at-requires : goal.at-requires
-at-requires g c = rw c.run.ensures (place_at (seen c.self.inside c.self.view_is c.self.invariant) c.requires.0 c.args.position (rw (← c.self.view_is) at c.requires.1) _ c.read.ensures)
+at-requires g c = (place_at (seen c.self.inside c.self.view_is c.self.invariant) c.requires.0 c.args.position (rw (← c.self.view_is) at c.requires.1) _ c.read.ensures)
 
 pub returns : goal.returns
 returns g c k e =
-    number_there (seen c.self.inside c.self.view_is c.self.invariant) k c.args.position (rw (← c.self.view_is) at e) _ c.read.ensures ∙ (rw c.run.ensures at c.at.ensures)
+    number_there (seen c.self.inside c.self.view_is c.self.invariant) k c.args.position (rw (← c.self.view_is) at e) _ c.read.ensures ∙ (c.at.ensures)

@@ -31,7 +31,7 @@ returns-in_default-clause-room g c =
     let n = c.begin.new.self in
     let none = nothing_there (seen_rows c.self.inside c.self.view_is c.self.invariant) (sym c.last_position.ensures ∙ c.in_default.is) in
     let e : row_end_room (lengths l.rows) ≡ 0 = ap (λ rs. row_end_room (lengths rs)) none.1 in
-    let i : row_end_room (lengths n.rows) ≡ 63 = rw (c.begin.ensures.rows.0, none.1) refl in
+    let i : row_end_room (lengths n.rows) ≡ 63 = rw (c.begin.ensures.rows.2, none.1) refl in
     let s = c.begin.ensures.spare_rows in
     omega arith
 
@@ -109,7 +109,7 @@ returns-clause-room g c =
     let p = c.in-Some.position in
     let s = at_last f p (sym c.last_position.ensures ∙ c.in-Some.is) in
     let was : row_end_room (lengths l.rows) ≡ 64 - (p.place + 1) = last_room s f.apart in
-    let is : row_end_room (lengths n.rows) ≡ 63 = last_begun s f.apart n.rows _ c.begin-2.result c.begin-2.ensures.rows.0 in
+    let is : row_end_room (lengths n.rows) ≡ 63 = last_begun s f.apart n.rows _ c.begin-2.result c.begin-2.ensures.rows.2 in
     let e = c.begin-2.ensures.spare_rows in
     let w = c.if-position.false in
     omega arith

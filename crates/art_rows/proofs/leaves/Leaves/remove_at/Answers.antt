@@ -10,13 +10,13 @@ take-leaf-requires g c =
     let f = seen c.self.inside c.self.view_is c.self.invariant in
     rw c.number.ensures.value (has_record f c.args.id c.requires.has)
 
-pub take_out-requires-clause-has : goal.take_out-requires-clause-has
-take_out-requires-clause-has g c =
+pub remove-requires-clause-has : goal.remove-requires-clause-has
+remove-requires-clause-has g c =
     let at = rw (← ap (λ t. t.rows) c.self.view_is) at c.requires.at in
     has_row_at (seen c.self.inside c.self.view_is c.self.invariant) _ c.args.position at
 
-pub take_out-requires-clause-within : goal.take_out-requires-clause-within
-take_out-requires-clause-within g c =
+pub remove-requires-clause-within : goal.remove-requires-clause-within
+remove-requires-clause-within g c =
     let at = rw (← ap (λ t. t.rows) c.self.view_is) at c.requires.at in
     if_row_at (seen c.self.inside c.self.view_is c.self.invariant) _ c.args.position at
 
@@ -25,17 +25,17 @@ invariant_of-self g c =
     let f = seen c.self.inside c.self.view_is c.self.invariant in
     let at = rw (← ap (λ t. t.rows) c.self.view_is) at c.requires.at in
     let bound = c.self.invariant.1 in
-    (all_filed c.take-leaf.new.self (files_removed f c.args.id c.requires.has c.take_out.new.rows.pairs (taken_out f c.args.id c.requires.has c.args.position at c.take_out.new.rows.pairs c.take_out.ensures.one c.take_out.ensures.more) (slot_at c.take-leaf.new.self) (subst (λ n. slot_at c.take-leaf.new.self n ≡ None) c.number.ensures.value c.take-leaf.ensures.gone) (λ j ne. c.take-leaf.ensures.others j (λ e. ne (e ∙ c.number.ensures.value))) (used_count c.take-leaf.new.self) c.take-leaf.ensures.used), omega (arith, c.take-leaf.ensures.len, c.take_out.ensures.top), omega (arith, c.self.invariant.2, c.take-leaf.ensures.len))
+    (all_filed c.take-leaf.new.self (files_removed f c.args.id c.requires.has c.remove.new.self.pairs (taken_out f c.args.id c.requires.has c.args.position at c.remove.new.self.pairs c.remove.ensures.one c.remove.ensures.more) (slot_at c.take-leaf.new.self) (subst (λ n. slot_at c.take-leaf.new.self n ≡ None) c.number.ensures.value c.take-leaf.ensures.gone) (λ j ne. c.take-leaf.ensures.others j (λ e. ne (e ∙ c.number.ensures.value))) (used_count c.take-leaf.new.self) c.take-leaf.ensures.used), omega (arith, c.take-leaf.ensures.len, c.remove.ensures.top))
 
 pub returns-clause-rest : goal.returns-clause-rest
 returns-clause-rest g c =
     let f = seen c.self.inside c.self.view_is c.self.invariant in
     let at = rw (← ap (λ t. t.rows) c.self.view_is) at c.requires.at in
-    pairs_are c.take-leaf.new.self (files_removed f c.args.id c.requires.has c.take_out.new.rows.pairs (taken_out f c.args.id c.requires.has c.args.position at c.take_out.new.rows.pairs c.take_out.ensures.one c.take_out.ensures.more) (slot_at c.take-leaf.new.self) (subst (λ n. slot_at c.take-leaf.new.self n ≡ None) c.number.ensures.value c.take-leaf.ensures.gone) (λ j ne. c.take-leaf.ensures.others j (λ e. ne (e ∙ c.number.ensures.value))) (used_count c.take-leaf.new.self) c.take-leaf.ensures.used)
+    pairs_are c.take-leaf.new.self (files_removed f c.args.id c.requires.has c.remove.new.self.pairs (taken_out f c.args.id c.requires.has c.args.position at c.remove.new.self.pairs c.remove.ensures.one c.remove.ensures.more) (slot_at c.take-leaf.new.self) (subst (λ n. slot_at c.take-leaf.new.self n ≡ None) c.number.ensures.value c.take-leaf.ensures.gone) (λ j ne. c.take-leaf.ensures.others j (λ e. ne (e ∙ c.number.ensures.value))) (used_count c.take-leaf.new.self) c.take-leaf.ensures.used)
 
 pub returns-clause-room : goal.returns-clause-room
 returns-clause-room g c =
     let f = seen c.self.inside c.self.view_is c.self.invariant in
     let at = rw (← ap (λ t. t.rows) c.self.view_is) at c.requires.at in
-    let a = taken_room c.self.inside.rows.pairs _ c.args.position at f.apart c.take_out.new.rows.pairs c.self.inside.rows.spare c.take_out.new.rows.spare c.take_out.ensures.one c.take_out.ensures.more c.take_out.ensures.gains c.take_out.ensures.grows in
+    let a = taken_room c.self.inside.rows.pairs _ c.args.position at f.apart c.remove.new.self.pairs c.self.inside.rows.spare c.remove.new.self.spare c.remove.ensures.one c.remove.ensures.more c.remove.ensures.gains c.remove.ensures.grows in
     rw (← c.self.view_is) a

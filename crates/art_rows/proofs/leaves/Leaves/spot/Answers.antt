@@ -1,9 +1,7 @@
 use Rattle.std.proofs.Common.{◌≡◌, ◌+◌, sym, ap, ◌∙◌, arith}
-use Rattle.art_rows.specs.Numbers.{leaf_in}
-use Rattle.art_rows.specs.Rows.{position_at, place_in}
-use Rattle.art_rows.specs.Blocks.{row_of}
+use Rattle.art_rows.specs.Rows.{position_at}
 use Rattle.art_rows.specs.Leaves.{index_of}
-use Rattle.art_rows.proofs.FilingLemmas.{seen, seen_rows, place_below, located_at, if_some}
+use Rattle.art_rows.proofs.FilingLemmas.{seen, place_below}
 use Rattle.art_rows.proofs.RowChanges.{spot_first, first_none, spot_after}
 use Rattle.art_rows.proofs.leaves.Leaves.spot.Goals as goal
 
@@ -23,9 +21,3 @@ returns-in-None-clause-none g c =
 
 pub returns-in-Some-clause-some : goal.returns-in-Some-clause-some
 returns-in-Some-clause-some g c = rw c.in-Some.is (spot_after c.args.self.now.rows _ c.position_near-position.result c.position_near-position.ensures)
-
-pub returns-in-Some-clause-after : goal.returns-in-Some-clause-after
-returns-in-Some-clause-after g c =
-    let f = seen_rows c.self.inside c.self.view_is c.self.invariant in
-    let at = located_at f c.in-Some.id (rw c.in-Some.is at c.requires) c.position_near-position.result c.position_near-position.ensures in
-    rw c.in-Some.is (at.0, if_some (leaf_in c.args.self.now.rows (row_of c.in-Some.id)) (λ ids. c.position_near-position.result.place ≡ place_in ids c.in-Some.id) (λ ids. c.position_near-position.result.place + 1 ≡ place_in ids c.in-Some.id + 1) (λ ids e. ap (λ n. n + 1) e) at.1)

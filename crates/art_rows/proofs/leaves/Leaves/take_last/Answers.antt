@@ -4,12 +4,12 @@ use Rattle.art_rows.proofs.FilingLemmas.{seen, none_there}
 use Rattle.art_rows.proofs.Ends.{last_none, last_has, last_place, last_taken}
 use Rattle.art_rows.proofs.leaves.Leaves.take_last.Goals as goal
 
-pub returns-in_default-clause-takes : goal.returns-in_default-clause-takes
-returns-in_default-clause-takes g c =
+pub returns-in_default : goal.returns-in_default
+returns-in_default g c =
     let ps = c.args.self.now.pairs in
     let f = seen c.self.inside c.self.view_is c.self.invariant in
     let none = last_none ps (none_there f _ (ap (λ t. position_at t.rows (length ps - 1)) c.self.view_is ∙ sym c.last_position.ensures ∙ c.in_default.is)) in
-    (none, none)
+    record { takes = (none, none) }
 
 pub remove_at-requires-clause-has : goal.remove_at-requires-clause-has
 remove_at-requires-clause-has g c = let ps = c.args.self.now.pairs in last_has ps c.number-id.result (c.number-id.ensures (length ps - 1) (sym c.last_position.ensures ∙ c.in-Some.is))
@@ -21,9 +21,9 @@ remove_at-requires-clause-at g c =
     let at : position_at c.args.self.now.rows (length ps - 1) ≡ Some c.in-Some.position = sym c.last_position.ensures ∙ c.in-Some.is in
     ap (position_at c.args.self.now.rows) (last_place ps c.number-id.result f.distinct (c.number-id.ensures (length ps - 1) at)) ∙ at
 
-pub returns-clause-takes : goal.returns-clause-takes
-returns-clause-takes g c =
+pub returns : goal.returns
+returns g c =
     let ps = c.args.self.now.pairs in
     let f = seen c.self.inside c.self.view_is c.self.invariant in
     let there : nth (map (λ p. p.0) ps) (length ps - 1) ≡ Some c.number-id.result = c.number-id.ensures (length ps - 1) (sym c.last_position.ensures ∙ c.in-Some.is) in
-    (c.number-id.result, last_taken ps c.number-id.result c.remove_at.result f.distinct there c.remove_at.ensures.value ∙ ap (λ l. l ++ (c.number-id.result, c.remove_at.result) ∷ []) (sym c.remove_at.ensures.rest))
+    record { takes = (c.number-id.result, last_taken ps c.number-id.result c.remove_at.result f.distinct there c.remove_at.ensures.value ∙ ap (λ l. l ++ (c.number-id.result, c.remove_at.result) ∷ []) (sym c.remove_at.ensures.rest)) }

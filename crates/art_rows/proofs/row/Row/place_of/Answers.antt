@@ -1,12 +1,19 @@
-use Rattle.std.proofs.Common.{◌*◌, ap, ◌∙◌}
-use Rattle.art_rows.specs.Rows.{place_in}
-use Rattle.art_rows.proofs.Searches.{found_in_block}
+use Rattle.std.proofs.Common.{◌≡◌, true, ◌∙◌}
+use Rattle.art_rows.specs.Rows.{among}
+use Rattle.art_rows.proofs.RowNumbers.{low_once, low_place, row_place}
 use Rattle.art_rows.proofs.row.Row.place_of.Goals as goal
 
-pub new-requires-clause-within : goal.new-requires-clause-within
-new-requires-clause-within c = c.self.invariant.3.within
+pub place_of_half-requires-clause-once : goal.place_of_half-requires-clause-once
+place_of_half-requires-clause-once c =
+    let h : among c.args.self.now c.number-number.result ≡ true = rw c.number-number.ensures.value c.requires in
+    low_once c.self.invariant c.self.view_is c.if-self-eq0.true c.number-number.result h
 
-pub returns : goal.returns
-returns c =
-    let i = c.self.inside in
-    rw (← c.self.view_is) (c.place_of.ensures ∙ ap (λ l. place_in l c.args.number) c.new.ensures ∙ found_in_block (64 * i.block) i.count i.cells c.args.number (rw (← c.self.view_is) at c.requires))
+pub returns-then-self-eq0 : goal.returns-then-self-eq0
+returns-then-self-eq0 c =
+    let h : among c.args.self.now c.number-number.result ≡ true = rw c.number-number.ensures.value c.requires in
+    c.place_of_half.ensures ∙ low_place c.self.invariant c.self.view_is c.if-self-eq0.true c.number-number.result h ∙ rw c.number-number.ensures.value
+
+pub returns-else-self-eq0 : goal.returns-else-self-eq0
+returns-else-self-eq0 c =
+    let h : among c.args.self.now c.number-number.result ≡ true = rw c.number-number.ensures.value c.requires in
+    c.place_of_both.ensures ∙ row_place c.self.invariant c.self.view_is c.number-number.result h ∙ rw c.number-number.ensures.value

@@ -1,60 +1,89 @@
-use Rattle.std.proofs.Common.{◌≡◌, lit<, sym, ap, subst, ◌∙◌, Ok}
-use Rattle.art_cells.specs.Calls.Adding.{Adds as AddsCell}
-use Rattle.art_cells.specs.Content.{Content as CellContent}
-use Rattle.art_cells.specs.declared.tree.add.Added.TheVariants.{Stored, Conflict}
-use Rattle.art_tree.specs.Adding.{Adds}
-use Rattle.art_tree.specs.Content.{Content}
+use Rattle.std.proofs.Common.{◌≡◌, lit<, refl, subst, Option, Ok, Err, false}
 use Rattle.blart_keys.specs.Bytes.{related}
-use Rattle.blart_keys.specs.Content.{subtree}
-use Rattle.art_cells.proofs.CallerLemmas.{Has-first, passing_has}
-use Rattle.art_tree.specs.Leaves.{Numbered, Has, bytes}
-use Rattle.art_tree.specs.UnderIds.{id_at}
-use Rattle.art_tree.proofs.Adding.{adds_named, named_result, tree_of}
-use Rattle.art_tree.proofs.Pointing.{exact_has}
+use Rattle.blart_keys.proofs.RankLemmas.{Member}
+use Rattle.art_kinds.specs.Nodes.{at}
+use Rattle.art_kinds.specs.declared.records.ids.Child.{Child}
+use Rattle.art_tree.specs.Adding.{Adds}
+use Rattle.art_tree.specs.Calls.Placing.{content_of}
+use Rattle.art_tree.specs.Content.{Content}
+use Rattle.art_tree.specs.Invariant.Sound.{IsSound}
+use Rattle.art_tree.specs.Leaves.{Numbered, bytes}
+use Rattle.art_tree.specs.Points.{IsGood}
+use Rattle.art_tree.specs.declared.tree.point.Point.TheVariants.{Exact, Related}
+use Rattle.art_tree.specs.declared.tree.add.Added.TheVariants.{Placed}
+use Rattle.art_tree.proofs.CallerLemmas.{free_alone}
+use Rattle.art_tree.proofs.Invariant.Soundness.{rootless, sound_same}
+use Rattle.art_tree.proofs.NumberedPairs.Added.{adds_placed, adds_refused}
 use Rattle.art_tree.proofs.tree.Tree.add.Goals as goal
-use Rattle.art_tree.proofs.tree.Tree.add.Goals.{in-Ok-Placed, in-Ok-Stored, in-Ok-Conflict, in-Err}
 
-pub id_of-id-requires : goal.id_of-id-requires
-id_of-id-requires g c =
-    let kb = g.K.AsBytes.bytes in
-    let old = c.self.inside.cells in
-    let new = c.add-added.new.self in
-    let x : g.row.K.Denot × g.row.V.Denot = (c.args.key, c.args.value) in
-    let w = c.in-Ok-Stored in
-    let a = subst (AddsCell kb old new x) (w.is ∙ ap Ok w.field-0-is) c.add-added.ensures.added in
-    (lit< tt, subst (λ (t : CellContent g.row.K.Denot g.row.V.Denot). Has t.pairs w.cell) (sym a.2) (exact_has kb old.ids old.pairs c.law.ensures.named c.law.ensures.distinct (kb x.0) w.cell a.0.0 a.0.1))
+-- ---- no pairs
 
-pub id_of-id-requires-in-Ok-Conflict : goal.id_of-id-requires-in-Ok-Conflict
-id_of-id-requires-in-Ok-Conflict g c =
+pub add_first-requires : goal.add_first-requires
+add_first-requires g c =
     let kb = g.K.AsBytes.bytes in
-    let old = c.self.inside.cells in
-    let new = c.add-added.new.self in
-    let x : g.row.K.Denot × g.row.V.Denot = (c.args.key, c.args.value) in
-    let w = c.in-Ok-Conflict in
-    let a = subst (AddsCell kb old new x) (w.is ∙ ap Ok w.field-0-is) c.add-added.ensures.added in
-    let has = passing_has old.pairs (λ (x : Numbered _ _). related (kb x.1.0) (kb c.args.key)) w.cell c.law.ensures.distinct (Has-first (subtree (bytes kb) old.pairs (kb c.args.key)) w.cell a.0.1.1) in
-    (lit< tt, subst (λ (t : CellContent g.row.K.Denot g.row.V.Denot). Has t.pairs w.cell) (sym a.2) has)
+    let l = c.self.inside.leaves in
+    let n = c.self.inside.nodes in
+    (lit< tt, (subst (λ (r : Option Child). IsSound kb g.row.PREFIX_LEN l n r) c.in-None.is c.self.invariant, rootless kb l.pairs (at n) c.self.inside.root c.self.invariant.shape c.in-None.is))
 
-pub returns-clause-added : goal.returns-clause-added
-returns-clause-added g c =
+pub returns-in-Err-clause-added : goal.returns-in-Err-clause-added
+returns-in-Err-clause-added g c =
     let kb = g.K.AsBytes.bytes in
-    let old = c.self.inside.cells in
-    let new = c.add-added.new.self in
+    let l = c.self.inside.leaves in
+    let n = c.self.inside.nodes in
     let x : g.row.K.Denot × g.row.V.Denot = (c.args.key, c.args.value) in
-    let added = c.add-added.ensures.added in
-    let same : c.match-added.result ≡ named_result old.ids c.add-added.result = elim c.match-added.branch [
-      | in-Ok-Placed w ↦ w.result-is ∙ sym (ap (named_result old.ids) (w.in-Ok-Placed.is ∙ ap Ok w.in-Ok-Placed.field-0-is))
-      | in-Ok-Stored w ↦
-          let s = w.in-Ok-Stored in
-          let a = subst (AddsCell kb old new x) (s.is ∙ ap Ok s.field-0-is) added in
-          let id = w.id_of-id.ensures ∙ ap (λ (t : CellContent g.row.K.Denot g.row.V.Denot). id_at t.ids s.cell) a.2 in
-          w.result-is ∙ ap (λ i. Ok (Stored i s.key s.value)) id ∙ sym (ap (named_result old.ids) (s.is ∙ ap Ok s.field-0-is))
-      | in-Ok-Conflict w ↦
-          let s = w.in-Ok-Conflict in
-          let a = subst (AddsCell kb old new x) (s.is ∙ ap Ok s.field-0-is) added in
-          let id = w.id_of-id-in-Ok-Conflict.ensures ∙ ap (λ (t : CellContent g.row.K.Denot g.row.V.Denot). id_at t.ids s.cell) a.2 in
-          w.result-is ∙ ap (λ i. Ok (Conflict i s.key s.value)) id ∙ sym (ap (named_result old.ids) (s.is ∙ ap Ok s.field-0-is))
-      | in-Err w ↦ w.result-is ∙ sym (ap (named_result old.ids) w.in-Err.is)
-    ] in
-    let a = adds_named kb old new x c.law.ensures.named c.law-2.ensures.named c.add-added.result added in
-    subst (λ (t : Content g.row.K.Denot g.row.V.Denot). Adds kb t (tree_of new) x c.match-added.result) c.self.view_is (subst (Adds kb (tree_of old) (tree_of new) x) (sym same) a)
+    let none = rootless kb l.pairs (at n) c.self.inside.root c.self.invariant.shape c.in-None.is in
+    let alone : (y : Numbered g.row.K.Denot g.row.V.Denot) → Member y l.pairs → related (bytes kb y) (kb x.0) ≡ false = λ y m. absurd (subst (Member y) none m) in
+    let e = c.in-Err.ensures in
+    (subst (λ (t : Content g.row.K.Denot g.row.V.Denot). Adds kb t (content_of c.add_first.new.leaves n) x (Err c.in-Err.refused)) c.self.view_is (adds_refused kb x (content_of l n) (content_of c.add_first.new.leaves n) c.in-Err.refused alone e.pairs))
+
+pub returns-in-Ok-clause-added : goal.returns-in-Ok-clause-added
+returns-in-Ok-clause-added g c =
+    let kb = g.K.AsBytes.bytes in
+    let l = c.self.inside.leaves in
+    let n = c.self.inside.nodes in
+    let x : g.row.K.Denot × g.row.V.Denot = (c.args.key, c.args.value) in
+    let none = rootless kb l.pairs (at n) c.self.inside.root c.self.invariant.shape c.in-None.is in
+    let alone : (y : Numbered g.row.K.Denot g.row.V.Denot) → Member y l.pairs → related (bytes kb y) (kb x.0) ≡ false = λ y m. absurd (subst (Member y) none m) in
+    subst (λ (t : Content g.row.K.Denot g.row.V.Denot). Adds kb t (content_of c.add_first.new.leaves n) x (Ok Placed)) c.self.view_is (adds_placed kb x l c.add_first.new.leaves n n _ alone c.in-Ok.ensures.placed)
+
+-- ---- a free place
+
+pub invariant_of-self-in-Err-add_beside : goal.invariant_of-self-in-Err-add_beside
+invariant_of-self-in-Err-add_beside g c =
+    let e = c.in-Err-add_beside.ensures in
+    sound_same g.K.AsBytes.bytes c.self.inside.leaves c.add_beside.new.leaves c.self.inside.nodes c.add_beside.new.nodes c.self.inside.root c.self.invariant e.pairs e.nodes
+
+pub returns-in-Err-add_beside-clause-added : goal.returns-in-Err-add_beside-clause-added
+returns-in-Err-add_beside-clause-added g c =
+    let kb = g.K.AsBytes.bytes in
+    let l = c.self.inside.leaves in
+    let n = c.self.inside.nodes in
+    let x : g.row.K.Denot × g.row.V.Denot = (c.args.key, c.args.value) in
+    let new = content_of c.add_beside.new.leaves c.add_beside.new.nodes in
+    let free = rw c.as_bytes.ensures at c.in-Free.ensures.good in
+    let alone = free_alone kb l.pairs c.self.invariant.content c.law.ensures.distinct (kb x.0) c.in-Free.place free in
+    let e = c.in-Err-add_beside.ensures in
+    (subst (λ (t : Content g.row.K.Denot g.row.V.Denot). Adds kb t new x (Err c.in-Err-add_beside.refused)) c.self.view_is (adds_refused kb x (content_of l n) new c.in-Err-add_beside.refused alone e.pairs))
+
+pub returns-in-Ok-add_beside-clause-added : goal.returns-in-Ok-add_beside-clause-added
+returns-in-Ok-add_beside-clause-added g c =
+    let kb = g.K.AsBytes.bytes in
+    let l = c.self.inside.leaves in
+    let n = c.self.inside.nodes in
+    let x : g.row.K.Denot × g.row.V.Denot = (c.args.key, c.args.value) in
+    let new = content_of c.add_beside.new.leaves c.add_beside.new.nodes in
+    let free = rw c.as_bytes.ensures at c.in-Free.ensures.good in
+    let alone = free_alone kb l.pairs c.self.invariant.content c.law.ensures.distinct (kb x.0) c.in-Free.place free in
+    subst (λ (t : Content g.row.K.Denot g.row.V.Denot). Adds kb t new x (Ok Placed)) c.self.view_is (adds_placed kb x l c.add_beside.new.leaves n c.add_beside.new.nodes _ alone c.in-Ok-add_beside.ensures.placed)
+
+-- ---- related keys
+
+pub returns-in-Exact-clause-added : goal.returns-in-Exact-clause-added
+returns-in-Exact-clause-added g c =
+    let good = rw c.as_bytes.ensures at c.in-Exact.ensures.good in
+    (subst (λ (t : Content g.row.K.Denot g.row.V.Denot). IsGood g.K.AsBytes.bytes t.pairs (Exact c.in-Exact.id) (g.K.AsBytes.bytes c.args.key)) c.self.view_is good, refl, refl)
+
+pub returns-in-Related-clause-added : goal.returns-in-Related-clause-added
+returns-in-Related-clause-added g c =
+    let good = rw c.as_bytes.ensures at c.in-Related.ensures.good in
+    ((c.in-Related.last, subst (λ (t : Content g.row.K.Denot g.row.V.Denot). IsGood g.K.AsBytes.bytes t.pairs (Related c.in-Related.first c.in-Related.last) (g.K.AsBytes.bytes c.args.key)) c.self.view_is good), refl, refl)

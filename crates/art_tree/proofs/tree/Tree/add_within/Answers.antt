@@ -1,59 +1,62 @@
-use Rattle.std.proofs.Common.{◌≡◌, lit<, sym, ap, subst, ◌∙◌, Ok}
-use Rattle.art_cells.specs.Calls.Adding.{Adds as AddsCell}
-use Rattle.art_cells.specs.Content.{Content as CellContent}
-use Rattle.art_cells.specs.declared.tree.add.Added.TheVariants.{Stored, Conflict}
-use Rattle.art_tree.specs.Adding.{Adds}
-use Rattle.art_tree.specs.Content.{Content}
+use Rattle.std.proofs.Common.{◌≡◌, ◌<◌, arith, lit<, refl, sym, subst, Option, Ok, false}
 use Rattle.blart_keys.specs.Bytes.{related}
-use Rattle.blart_keys.specs.Content.{subtree}
-use Rattle.art_cells.proofs.CallerLemmas.{Has-first, passing_has}
-use Rattle.art_tree.specs.Leaves.{Numbered, Has, bytes}
-use Rattle.art_tree.specs.UnderIds.{id_at}
-use Rattle.art_tree.proofs.Adding.{adds_named, named_result, tree_of}
-use Rattle.art_tree.proofs.Pointing.{exact_has}
+use Rattle.blart_keys.proofs.RankLemmas.{Member}
+use Rattle.art_kinds.specs.Nodes.{at}
+use Rattle.art_kinds.specs.declared.records.ids.Child.{Child}
+use Rattle.art_tree.specs.Adding.{Adds}
+use Rattle.art_tree.specs.Calls.Placing.{content_of}
+use Rattle.art_tree.specs.Content.{Content, room as places}
+use Rattle.art_tree.specs.Invariant.Sound.{IsSound}
+use Rattle.art_tree.specs.Leaves.{Numbered, bytes}
+use Rattle.art_tree.specs.Points.{IsGood}
+use Rattle.art_tree.specs.declared.tree.point.Point.TheVariants.{Exact, Related}
+use Rattle.art_tree.specs.declared.tree.add.Added.TheVariants.{Placed}
+use Rattle.art_tree.proofs.CallerLemmas.{free_alone}
+use Rattle.art_tree.proofs.Invariant.Soundness.{rootless}
+use Rattle.art_tree.proofs.NumberedPairs.Added.{adds_placed}
 use Rattle.art_tree.proofs.tree.Tree.add_within.Goals as goal
-use Rattle.art_tree.proofs.tree.Tree.add_within.Goals.{in-Placed, in-Stored, in-Conflict}
 
-pub id_of-id-requires : goal.id_of-id-requires
-id_of-id-requires g c =
-    let kb = g.K.AsBytes.bytes in
-    let old = c.self.inside.cells in
-    let new = c.add_within-added.new.self in
-    let x : g.row.K.Denot × g.row.V.Denot = (c.args.key, c.args.value) in
-    let w = c.in-Stored in
-    let a = subst (AddsCell kb old new x) (ap Ok w.is) c.add_within-added.ensures.added in
-    (lit< tt, subst (λ (t : CellContent g.row.K.Denot g.row.V.Denot). Has t.pairs w.cell) (sym a.2) (exact_has kb old.ids old.pairs c.law.ensures.named c.law.ensures.distinct (kb x.0) w.cell a.0.0 a.0.1))
+-- ---- no pairs
 
-pub id_of-id-requires-in-Conflict : goal.id_of-id-requires-in-Conflict
-id_of-id-requires-in-Conflict g c =
+pub place_first-requires : goal.place_first-requires
+place_first-requires g c =
     let kb = g.K.AsBytes.bytes in
-    let old = c.self.inside.cells in
-    let new = c.add_within-added.new.self in
-    let x : g.row.K.Denot × g.row.V.Denot = (c.args.key, c.args.value) in
-    let w = c.in-Conflict in
-    let a = subst (AddsCell kb old new x) (ap Ok w.is) c.add_within-added.ensures.added in
-    let has = passing_has old.pairs (λ (x : Numbered _ _). related (kb x.1.0) (kb c.args.key)) w.cell c.law.ensures.distinct (Has-first (subtree (bytes kb) old.pairs (kb c.args.key)) w.cell a.0.1.1) in
-    (lit< tt, subst (λ (t : CellContent g.row.K.Denot g.row.V.Denot). Has t.pairs w.cell) (sym a.2) has)
+    let l = c.self.inside.leaves in
+    let n = c.self.inside.nodes in
+    let room : 0 < places (content_of l n) = subst (λ (t : Content g.row.K.Denot g.row.V.Denot). 0 < places t) (sym c.self.view_is) c.requires.room in
+    (lit< tt, (subst (λ (r : Option Child). IsSound kb g.row.PREFIX_LEN l n r) c.in-None.is c.self.invariant, (rootless kb l.pairs (at n) c.self.inside.root c.self.invariant.shape c.in-None.is, omega arith)))
 
-pub returns-clause-added : goal.returns-clause-added
-returns-clause-added g c =
+pub returns-in-None-clause-added : goal.returns-in-None-clause-added
+returns-in-None-clause-added g c =
     let kb = g.K.AsBytes.bytes in
-    let old = c.self.inside.cells in
-    let new = c.add_within-added.new.self in
+    let l = c.self.inside.leaves in
+    let n = c.self.inside.nodes in
     let x : g.row.K.Denot × g.row.V.Denot = (c.args.key, c.args.value) in
-    let added = c.add_within-added.ensures.added in
-    let same : Ok c.match-added.result ≡ named_result old.ids (Ok c.add_within-added.result) = elim c.match-added.branch [
-      | in-Placed w ↦ ap Ok w.result-is ∙ sym (ap (named_result old.ids) (ap Ok w.in-Placed.is))
-      | in-Stored w ↦
-          let s = w.in-Stored in
-          let a = subst (AddsCell kb old new x) (ap Ok s.is) added in
-          let id = w.id_of-id.ensures ∙ ap (λ (t : CellContent g.row.K.Denot g.row.V.Denot). id_at t.ids s.cell) a.2 in
-          ap Ok w.result-is ∙ ap (λ i. Ok (Stored i s.key s.value)) id ∙ sym (ap (named_result old.ids) (ap Ok s.is))
-      | in-Conflict w ↦
-          let s = w.in-Conflict in
-          let a = subst (AddsCell kb old new x) (ap Ok s.is) added in
-          let id = w.id_of-id-in-Conflict.ensures ∙ ap (λ (t : CellContent g.row.K.Denot g.row.V.Denot). id_at t.ids s.cell) a.2 in
-          ap Ok w.result-is ∙ ap (λ i. Ok (Conflict i s.key s.value)) id ∙ sym (ap (named_result old.ids) (ap Ok s.is))
-    ] in
-    let a = adds_named kb old new x c.law.ensures.named c.law-2.ensures.named (Ok c.add_within-added.result) added in
-    subst (λ (t : Content g.row.K.Denot g.row.V.Denot). Adds kb t (tree_of new) x (Ok c.match-added.result)) c.self.view_is (subst (Adds kb (tree_of old) (tree_of new) x) (sym same) a)
+    let none = rootless kb l.pairs (at n) c.self.inside.root c.self.invariant.shape c.in-None.is in
+    let alone : (y : Numbered g.row.K.Denot g.row.V.Denot) → Member y l.pairs → related (bytes kb y) (kb x.0) ≡ false = λ y m. absurd (subst (Member y) none m) in
+    subst (λ (t : Content g.row.K.Denot g.row.V.Denot). Adds kb t (content_of c.place_first.new.leaves n) x (Ok Placed)) c.self.view_is (adds_placed kb x l c.place_first.new.leaves n n _ alone c.place_first.ensures.placed)
+
+-- ---- a free place
+
+pub returns-in-Free-clause-added : goal.returns-in-Free-clause-added
+returns-in-Free-clause-added g c =
+    let kb = g.K.AsBytes.bytes in
+    let l = c.self.inside.leaves in
+    let n = c.self.inside.nodes in
+    let x : g.row.K.Denot × g.row.V.Denot = (c.args.key, c.args.value) in
+    let new = content_of c.place_beside.new.leaves c.place_beside.new.nodes in
+    let free = rw c.as_bytes.ensures at c.in-Free.ensures.good in
+    let alone = free_alone kb l.pairs c.self.invariant.content c.law.ensures.distinct (kb x.0) c.in-Free.place free in
+    subst (λ (t : Content g.row.K.Denot g.row.V.Denot). Adds kb t new x (Ok Placed)) c.self.view_is (adds_placed kb x l c.place_beside.new.leaves n c.place_beside.new.nodes _ alone c.place_beside.ensures.placed)
+
+-- ---- related keys
+
+pub returns-in-Exact-clause-added : goal.returns-in-Exact-clause-added
+returns-in-Exact-clause-added g c =
+    let good = rw c.as_bytes.ensures at c.in-Exact.ensures.good in
+    (subst (λ (t : Content g.row.K.Denot g.row.V.Denot). IsGood g.K.AsBytes.bytes t.pairs (Exact c.in-Exact.id) (g.K.AsBytes.bytes c.args.key)) c.self.view_is good, refl, refl)
+
+pub returns-in-Related-clause-added : goal.returns-in-Related-clause-added
+returns-in-Related-clause-added g c =
+    let good = rw c.as_bytes.ensures at c.in-Related.ensures.good in
+    ((c.in-Related.last, subst (λ (t : Content g.row.K.Denot g.row.V.Denot). IsGood g.K.AsBytes.bytes t.pairs (Related c.in-Related.first c.in-Related.last) (g.K.AsBytes.bytes c.args.key)) c.self.view_is good), refl, refl)

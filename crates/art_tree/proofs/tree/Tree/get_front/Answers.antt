@@ -1,29 +1,21 @@
-use Rattle.std.proofs.Common.{ap, sym, ◌∙◌, lit<, option_map}
+use Rattle.std.proofs.Common.{◌≡◌, List, ap, None, Some, sym, false, true, subst}
 use Rattle.blart_keys.specs.Bytes.{begins}
-use Rattle.blart_keys.proofs.ContentLemmas.{front_of_Some}
-use Rattle.blart_keys.proofs.Mapped.{find-map}
-use Rattle.blart_keys.proofs.Options.{is_some}
-use Rattle.art_cells.proofs.CallerLemmas.{leaf_in-member}
-use Rattle.art_tree.specs.Leaves.{Numbered, leaf_in, bytes}
-use Rattle.art_tree.specs.UnderIds.{under_id}
-use Rattle.art_tree.proofs.UnderIds.{none_ids}
+use Rattle.art_tree.specs.Begins.{Bytes, Begins}
+use Rattle.art_tree.proofs.BeginsLemmas.{Begins-from_begins, begins-from_Begins}
+use Rattle.art_tree.specs.Calls.Descents.{IsFrontAlone}
+use Rattle.art_tree.specs.Leaves.{Numbered}
+use Rattle.art_tree.proofs.NumberedPairs.LookUps.{none_front, this_front, not_front}
 use Rattle.art_tree.proofs.tree.Tree.get_front.Goals as goal
 
-pub id_of-requires : goal.id_of-requires
-id_of-requires g c =
-    let ps = c.self.inside.cells.pairs in
-    let f = c.in-Some.found in
-    let member = (front_of_Some (bytes g.K.AsBytes.bytes) ps c.args.query.now (f.0, (f.1.now, f.2.now)) (sym c.in-Some.ensures.found)).0 in
-    (lit< tt, is_some (leaf_in ps f.0) (f.1.now, f.2.now) (leaf_in-member ps f.0 (f.1.now, f.2.now) c.law.ensures.distinct member))
-
 pub returns-in_default-clause-found : goal.returns-in_default-clause-found
-returns-in_default-clause-found g c = rw (← c.self.view_is) (ap (λ o. option_map (under_id c.self.inside.cells.ids) o) c.in_default.ensures.found ∙ sym (find-map (under_id c.self.inside.cells.ids) (λ (x : Numbered _ _). begins (g.K.AsBytes.bytes x.1.0) c.args.query.now) c.self.inside.cells.pairs))
+returns-in_default-clause-found g c = none_front g.K.AsBytes.bytes c.args.self.now.pairs c.law.ensures.content c.law.ensures.distinct c.args.query.now (subst (λ (S : List (Numbered _ _)). IsFrontAlone g.K.AsBytes.bytes S c.args.query.now None) (ap (λ t. t.pairs) c.self.view_is) c.in_default.ensures.found)
 
-pub returns-clause-found : goal.returns-clause-found
-returns-clause-found g c = rw (← c.self.view_is, c.id_of.ensures) (ap (λ o. option_map (under_id c.self.inside.cells.ids) o) c.in-Some.ensures.found ∙ sym (find-map (under_id c.self.inside.cells.ids) (λ (x : Numbered _ _). begins (g.K.AsBytes.bytes x.1.0) c.args.query.now) c.self.inside.cells.pairs))
+pub returns-then-begins-clause-found : goal.returns-then-begins-clause-found
+returns-then-begins-clause-found g c =
+    let b : true ≡ begins c.as_bytes.result.now c.args.query.now = c.if-begins.ensures in
+    this_front g.K.AsBytes.bytes c.args.self.now.pairs c.law.ensures.content c.law.ensures.distinct c.args.query.now (c.in-Some.found.0, (c.in-Some.found.1.now, c.in-Some.found.2.now)) (subst (λ (S : List (Numbered _ _)). IsFrontAlone g.K.AsBytes.bytes S c.args.query.now (Some (c.in-Some.found.0, (c.in-Some.found.1.now, c.in-Some.found.2.now)))) (ap (λ t. t.pairs) c.self.view_is) c.in-Some.ensures.found) (subst (λ (z : Bytes). Begins z c.args.query.now) c.as_bytes.ensures (Begins-from_begins c.as_bytes.result.now c.args.query.now (sym b)))
 
-pub returns-in_default-clause-empty : goal.returns-in_default-clause-empty
-returns-in_default-clause-empty g c = λ e. c.get_front.ensures.empty (none_ids c.self.inside.cells.ids c.self.inside.cells.pairs (ap (λ t. t.pairs) c.self.view_is ∙ e))
-
-pub returns-clause-empty : goal.returns-clause-empty
-returns-clause-empty g c = λ e. c.get_front.ensures.empty (none_ids c.self.inside.cells.ids c.self.inside.cells.pairs (ap (λ t. t.pairs) c.self.view_is ∙ e))
+pub returns-else-begins-clause-found : goal.returns-else-begins-clause-found
+returns-else-begins-clause-found g c =
+    let b : false ≡ begins c.as_bytes.result.now c.args.query.now = c.if-begins.ensures in
+    not_front g.K.AsBytes.bytes c.args.self.now.pairs c.law.ensures.content c.law.ensures.distinct c.args.query.now (c.in-Some.found.0, (c.in-Some.found.1.now, c.in-Some.found.2.now)) (subst (λ (S : List (Numbered _ _)). IsFrontAlone g.K.AsBytes.bytes S c.args.query.now (Some (c.in-Some.found.0, (c.in-Some.found.1.now, c.in-Some.found.2.now)))) (ap (λ t. t.pairs) c.self.view_is) c.in-Some.ensures.found) (λ h. (let t : begins c.as_bytes.result.now c.args.query.now ≡ true = begins-from_Begins c.as_bytes.result.now c.args.query.now (subst (λ (z : Bytes). Begins z c.args.query.now) (sym c.as_bytes.ensures) h) in cc))

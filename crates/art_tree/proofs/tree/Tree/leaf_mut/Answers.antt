@@ -1,21 +1,12 @@
-use Rattle.std.proofs.Common.{List, refl, ap, ◌∙◌}
-use Rattle.art_tree.specs.Content.{Content}
-use Rattle.art_tree.specs.Leaves.{Numbered, with_value}
-use Rattle.art_tree.proofs.UnderIds.{with_value_lies}
+use Rattle.art_tree.proofs.NumberedPairs.Numbers.{keys_in-with_value}
+use Rattle.art_tree.proofs.NumberedPairs.Changes.{content_with_value}
+use Rattle.art_tree.proofs.Invariant.Soundness.{sound_over}
 use Rattle.art_tree.proofs.tree.Tree.leaf_mut.Goals as goal
 
-pub returns : goal.returns
-returns g c =
-    let cells = c.self.inside.cells in
-    let with_pairs : List (Numbered g.row.K.Denot g.row.V.Denot) → Content g.row.K.Denot g.row.V.Denot = λ qs. record { pairs = qs; spares = cells.spares } in (
-      (
-        refl,
-        λ w.
-            ap with_pairs (with_value_lies cells.ids cells.pairs c.law.ensures.named c.args.id c.cell_of-cell.result c.cell_of-cell.ensures w)
-            ∙ ap (λ (t : Content g.row.K.Denot g.row.V.Denot). record t { pairs = with_value t.pairs c.args.id w }) c.self.view_is,
-      ),
-      record {
-        writes_back = tt;
-        value = rw (← c.self.view_is) (c.cell_of-cell.ensures.same ∙ c.leaf_mut.ensures.value);
-      },
-    )
+pub invariant_of-self-lent : goal.invariant_of-self-lent
+invariant_of-self-lent g c w =
+    let key_bytes = g.K.AsBytes.bytes in
+    let i = c.self.inside in
+    let old = i.leaves.pairs in
+    let same = keys_in-with_value key_bytes old c.args.id w in
+    sound_over key_bytes i.leaves _ i.nodes i.root c.self.invariant (content_with_value key_bytes old c.args.id w c.self.invariant.content) same

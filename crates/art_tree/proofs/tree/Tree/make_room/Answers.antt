@@ -1,8 +1,9 @@
-use Rattle.art_cells.proofs.UnderIds.{under_extended}
+use Rattle.std.proofs.Common.{refl}
+use Rattle.art_tree.proofs.Invariant.Soundness.{sound_same}
 use Rattle.art_tree.proofs.tree.Tree.make_room.Goals as goal
 
-pub returns-in-Empty-clause-pairs : goal.returns-in-Empty-clause-pairs
-returns-in-Empty-clause-pairs g c = rw (← c.self.view_is, c.make_room.ensures.pairs) (under_extended c.self.inside.cells.ids c.make_room.new.self.ids c.self.inside.cells.pairs c.make_room.ensures.ids c.law.ensures.named.named)
+pub invariant_of-self-in-Free-1 : goal.invariant_of-self-in-Free-1
+invariant_of-self-in-Free-1 g c = sound_same g.K.AsBytes.bytes c.self.inside.leaves c.make_room_beside.new.leaves c.self.inside.nodes c.make_room_beside.new.nodes c.self.inside.root c.self.invariant c.make_room_beside.ensures.pairs c.make_room_beside.ensures.nodes
 
-pub returns-in-Free-clause-pairs : goal.returns-in-Free-clause-pairs
-returns-in-Free-clause-pairs g c = rw (← c.self.view_is, c.make_room-in-Free.ensures.pairs) (under_extended c.self.inside.cells.ids c.make_room-in-Free.new.self.ids c.self.inside.cells.pairs c.make_room-in-Free.ensures.ids c.law.ensures.named.named)
+pub invariant_of-self : goal.invariant_of-self
+invariant_of-self g c = sound_same g.K.AsBytes.bytes c.self.inside.leaves c.reserve.new.self c.self.inside.nodes c.self.inside.nodes c.self.inside.root c.self.invariant c.reserve.ensures.pairs (λ j. refl)

@@ -1,5 +1,11 @@
-use Rattle.art_cells.proofs.UnderIds.{under_extended}
+use Rattle.std.proofs.Common.{refl}
+use Rattle.art_tree.proofs.Invariant.Soundness.{sound_same}
 use Rattle.art_tree.proofs.tree.Tree.reserve.Goals as goal
 
-pub returns-clause-pairs : goal.returns-clause-pairs
-returns-clause-pairs g c = rw (← c.self.view_is, c.reserve.ensures.pairs) (under_extended c.self.inside.cells.ids c.reserve.new.self.ids c.self.inside.cells.pairs c.reserve.ensures.ids c.law.ensures.named.named)
+pub invariant_of-self-2 : goal.invariant_of-self-2
+invariant_of-self-2 g c =
+    let i = c.self.inside in
+    sound_same g.K.AsBytes.bytes i.leaves _ i.nodes c.reserve-2.new.self i.root c.self.invariant c.in_ok-reserve.ensures.pairs c.reserve-2.ensures.same
+
+pub invariant_of-self : goal.invariant_of-self
+invariant_of-self g c = sound_same g.K.AsBytes.bytes c.self.inside.leaves _ c.self.inside.nodes c.self.inside.nodes c.self.inside.root c.self.invariant c.in_err-reserve.ensures.pairs (λ j. refl)

@@ -1,7 +1,7 @@
 use Rattle.std.proofs.Common.{sym}
 use Rattle.blart_keys.proofs.ContentLemmas.{front_of_Some}
 use Rattle.blart_keys.proofs.Options.{is_some}
-use Rattle.art_cells.proofs.CallerLemmas.{leaf_in-member}
+use Rattle.art_tree.proofs.NumberedPairs.Numbers.{leaf_in-member}
 use Rattle.art_tree.specs.Leaves.{bytes, leaf_in}
 use Rattle.art_tree.proofs.tree.Tree.search_front.Goals as goal
 

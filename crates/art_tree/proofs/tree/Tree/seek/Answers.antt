@@ -1,17 +1,53 @@
-use Rattle.std.proofs.Common.{ap, sym, ◌∙◌, lit<}
-use Rattle.art_cells.proofs.CallerLemmas.{number_within_has}
-use Rattle.art_tree.specs.Leaves.{Has, bytes}
-use Rattle.art_tree.proofs.UnderIds.{if_each, within_id, none_ids, longest_ids}
+use Rattle.std.proofs.Common.{◌≡◌, ℕ, Bool, List, refl, ap, sym, ◌∙◌, Option}
+use Rattle.std.specs.declared.ops.Bound.{Bound}
+use Rattle.blart_keys.specs.Bounds.{bound_bytes}
+use Rattle.art_tree.specs.Leaves.{Numbered, bytes}
+use Rattle.art_tree.specs.Seeks.{number_within}
+use Rattle.art_tree.proofs.NumberedPairs.Bounds.{number_within_all_start, number_within_all_end, number_within_at, number_within_after, number_within_before, number_within_included, number_within_excluded}
 use Rattle.art_tree.proofs.tree.Tree.seek.Goals as goal
 
-pub id_of_any-requires : goal.id_of_any-requires
-id_of_any-requires g c = (lit< tt, if_each (Has c.self.inside.cells.pairs) c.seek.result (λ cell e. number_within_has (bytes g.K.AsBytes.bytes) c.self.inside.cells.pairs c.law.ensures.distinct _ _ cell (sym c.seek.ensures.found ∙ e)))
+-- the number within an equal bound on an equal side
+told : {K V : Type 0} (kb : K → List ℕ) (S : List (Numbered K V)) {b d : Bound (List ℕ)} {side to : Bool} {r : Option ℕ} → b ≡ d → side ≡ to →
+    number_within (bytes kb) S d to ≡ r → r ≡ number_within (bytes kb) S b side
+told kb S {d = d} {side = side} e f h = sym (ap (λ (z : Bound (List ℕ)). number_within (bytes kb) S z side) e ∙ ap (number_within (bytes kb) S d) f ∙ h)
 
-pub returns-clause-found : goal.returns-clause-found
-returns-clause-found g c = rw (← c.self.view_is, c.id_of_any.ensures, c.seek.ensures.found) (sym (within_id c.self.inside.cells.ids g.K.AsBytes.bytes c.self.inside.cells.pairs _ c.args.is_start))
+pub returns-then-is_start-clause-found : goal.returns-then-is_start-clause-found
+returns-then-is_start-clause-found g c =
+    let h = number_within_all_start g.K.AsBytes.bytes c.args.self.now.pairs c.law.ensures.content c.law.ensures.distinct in
+    told g.K.AsBytes.bytes c.args.self.now.pairs (ap (bound_bytes (λ (b : List ℕ). b)) c.in-Unbounded.is) c.if-is_start.true (h ∙ sym c.first.ensures)
 
-pub returns-clause-counted : goal.returns-clause-counted
-returns-clause-counted g c = rw (← c.self.view_is, longest_ids c.self.inside.cells.ids g.K.AsBytes.bytes c.self.inside.cells.pairs) c.seek.ensures.counted
+pub returns-else-is_start-clause-found : goal.returns-else-is_start-clause-found
+returns-else-is_start-clause-found g c =
+    let h = number_within_all_end g.K.AsBytes.bytes c.args.self.now.pairs c.law.ensures.content c.law.ensures.distinct in
+    told g.K.AsBytes.bytes c.args.self.now.pairs (ap (bound_bytes (λ (b : List ℕ). b)) c.in-Unbounded.is) c.if-is_start.false (h ∙ sym c.last.ensures)
 
-pub returns-clause-empty : goal.returns-clause-empty
-returns-clause-empty g c = λ e. c.seek.ensures.empty (none_ids c.self.inside.cells.ids c.self.inside.cells.pairs (ap (λ t. t.pairs) c.self.view_is ∙ e))
+pub returns-in-Ok-clause-found : goal.returns-in-Ok-clause-found
+returns-in-Ok-clause-found g c =
+    let h = number_within_at g.K.AsBytes.bytes c.args.self.now.pairs c.law.ensures.content c.law.ensures.distinct in
+    let found = h c.in-Included.query.now c.in-Ok.id c.in-Ok.ensures.stands c.args.is_start in
+    told g.K.AsBytes.bytes c.args.self.now.pairs (ap (bound_bytes (λ (b : List ℕ). b)) c.in-Included.is) refl found
+
+pub returns-in-Err-clause-found : goal.returns-in-Err-clause-found
+returns-in-Err-clause-found g c =
+    let h = number_within_included g.K.AsBytes.bytes c.args.self.now.pairs c.law.ensures.content c.law.ensures.distinct in
+    let found = h c.in-Included.query.now c.in-Err.ensures.stands.1 c.in-Err.prev c.in-Err.ensures.stands.0 c.args.is_start ∙ sym c.side_of.ensures in
+    told g.K.AsBytes.bytes c.args.self.now.pairs (ap (bound_bytes (λ (b : List ℕ). b)) c.in-Included.is) refl found
+
+pub returns-in-Err-find_place-clause-found : goal.returns-in-Err-find_place-clause-found
+returns-in-Err-find_place-clause-found g c =
+    let h = number_within_excluded g.K.AsBytes.bytes c.args.self.now.pairs c.law.ensures.content c.law.ensures.distinct in
+    let f = c.in-Err-find_place in
+    let found = h c.in-Excluded.query.now f.ensures.stands.1 f.prev f.ensures.stands.0 c.args.is_start ∙ sym c.side_of-in-Err-find_place.ensures in
+    told g.K.AsBytes.bytes c.args.self.now.pairs (ap (bound_bytes (λ (b : List ℕ). b)) c.in-Excluded.is) refl found
+
+pub returns-then-is_start-2-clause-found : goal.returns-then-is_start-2-clause-found
+returns-then-is_start-2-clause-found g c =
+    let h = number_within_after g.K.AsBytes.bytes c.args.self.now.pairs c.law.ensures.content c.law.ensures.distinct in
+    let found = h c.in-Excluded.query.now c.in-Ok-find_place.id c.in-Ok-find_place.ensures.stands ∙ sym c.next_of.ensures in
+    told g.K.AsBytes.bytes c.args.self.now.pairs (ap (bound_bytes (λ (b : List ℕ). b)) c.in-Excluded.is) c.if-is_start-2.true found
+
+pub returns-else-is_start-2-clause-found : goal.returns-else-is_start-2-clause-found
+returns-else-is_start-2-clause-found g c =
+    let h = number_within_before g.K.AsBytes.bytes c.args.self.now.pairs c.law.ensures.content c.law.ensures.distinct in
+    let found = h c.in-Excluded.query.now c.in-Ok-find_place.id c.in-Ok-find_place.ensures.stands ∙ sym c.prev_of.ensures in
+    told g.K.AsBytes.bytes c.args.self.now.pairs (ap (bound_bytes (λ (b : List ℕ). b)) c.in-Excluded.is) c.if-is_start-2.false found

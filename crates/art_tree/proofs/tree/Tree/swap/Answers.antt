@@ -1,28 +1,42 @@
-use Rattle.std.proofs.Common.{sym, subst, lit<}
+use Rattle.std.proofs.Common.{sym, subst, refl}
 use Rattle.art_tree.specs.Content.{Content}
-use Rattle.art_cells.proofs.CallerLemmas.{leaf_in-with_now, others-with_pair}
-use Rattle.art_tree.specs.Leaves.{Has}
+use Rattle.art_tree.specs.Leaves.{Has, keys_in, with_pair}
+use Rattle.art_kinds.specs.Nodes.{at}
 use Rattle.art_tree.specs.Takes.{MayTake}
-use Rattle.art_tree.specs.UnderIds.{under_ids}
-use Rattle.art_tree.proofs.UnderIds.{with_pair_lies, may_take}
+use Rattle.art_tree.proofs.Invariant.Exchanging.{shape_exchanged}
+use Rattle.art_tree.proofs.NumberedPairs.KeyChanges.{exchanges_from}
+use Rattle.art_rows.proofs.CallerLemmas.{others-with_pair, leaf_in-with_now}
+use Rattle.art_tree.proofs.NumberedPairs.Changes.{content_with, near_new, apart_key}
+use Rattle.art_tree.proofs.Invariant.Soundness.{sound_same}
 use Rattle.art_tree.proofs.tree.Tree.swap.Goals as goal
 
-pub swap-requires : goal.swap-requires
-swap-requires g c =
-    let kb = g.K.AsBytes.bytes in
-    let may = subst (λ (t : Content g.row.K.Denot g.row.V.Denot). MayTake kb t.pairs c.args.id (kb c.args.key)) (sym c.self.view_is) c.requires.may in
-    (lit< tt, (c.cell_of-cell.ensures.has, may_take c.self.inside.cells.ids c.self.inside.cells.pairs c.law.ensures.named c.args.id c.cell_of-cell.result c.cell_of-cell.ensures kb (kb c.args.key) may))
-
-pub returns-clause-pairs : goal.returns-clause-pairs
-returns-clause-pairs g c = rw (← c.self.view_is, c.swap.ensures.ids, c.swap.ensures.pairs) (with_pair_lies c.self.inside.cells.ids c.self.inside.cells.pairs c.law.ensures.named c.args.id c.cell_of-cell.result c.cell_of-cell.ensures (c.args.key, c.args.value))
+pub invariant_of-self : goal.invariant_of-self
+invariant_of-self g c =
+    let key_bytes = g.K.AsBytes.bytes in
+    let i = c.self.inside in
+    let old = i.leaves.pairs in
+    let id = c.args.id in
+    let y : g.row.K.Denot × g.row.V.Denot = (c.args.key, c.args.value) in
+    let x = c.exchange.result in
+    let d = c.law.ensures.distinct in
+    let has = subst (λ (t : Content g.row.K.Denot g.row.V.Denot). Has t.pairs id) (sym c.self.view_is) c.requires.has in
+    let may = subst (λ (t : Content g.row.K.Denot g.row.V.Denot). MayTake key_bytes t.pairs id (key_bytes c.args.key)) (sym c.self.view_is) c.requires.may in
+    let new = with_pair old id y in
+    let ex = exchanges_from key_bytes old new id (others-with_pair old id y) x y c.exchange.ensures.value (leaf_in-with_now old id y has) in
+    let was = c.self.invariant in
+    let apart = apart_key key_bytes old id y d may in
+    let near = near_new key_bytes old id y d may x c.exchange.ensures.value in
+    sound_same key_bytes (record i.leaves { pairs = new }) c.exchange.new.self i.nodes i.nodes i.root
+    (record {
+      content = content_with key_bytes old id y d may was.content;
+      shape = shape_exchanged (keys_in key_bytes old) (keys_in key_bytes new) (at i.nodes) i.root id (key_bytes x.0) (key_bytes c.args.key) was.shape ex near apart;
+    })
+    c.exchange.ensures.pairs (λ j. refl)
 
 pub returns-clause-now : goal.returns-clause-now
 returns-clause-now g c =
     let has = subst (λ (t : Content g.row.K.Denot g.row.V.Denot). Has t.pairs c.args.id) (sym c.self.view_is) c.requires.has in
-    rw (c.swap.ensures.ids, c.swap.ensures.pairs, with_pair_lies c.self.inside.cells.ids c.self.inside.cells.pairs c.law.ensures.named c.args.id c.cell_of-cell.result c.cell_of-cell.ensures (c.args.key, c.args.value))
-    (leaf_in-with_now (under_ids c.self.inside.cells.ids c.self.inside.cells.pairs) c.args.id (c.args.key, c.args.value) has)
+    rw c.exchange.ensures.pairs (leaf_in-with_now c.self.inside.leaves.pairs c.args.id (c.args.key, c.args.value) has)
 
 pub returns-clause-others : goal.returns-clause-others
-returns-clause-others g c =
-    rw (← c.self.view_is, c.swap.ensures.ids, c.swap.ensures.pairs, with_pair_lies c.self.inside.cells.ids c.self.inside.cells.pairs c.law.ensures.named c.args.id c.cell_of-cell.result c.cell_of-cell.ensures (c.args.key, c.args.value))
-    (others-with_pair (under_ids c.self.inside.cells.ids c.self.inside.cells.pairs) c.args.id (c.args.key, c.args.value))
+returns-clause-others g c = rw (← c.self.view_is, c.exchange.ensures.pairs) (others-with_pair c.self.inside.leaves.pairs c.args.id (c.args.key, c.args.value))

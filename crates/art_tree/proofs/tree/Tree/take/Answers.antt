@@ -1,22 +1,32 @@
-use Rattle.std.proofs.Common.{sym, ◌∙◌, not}
-use Rattle.std.specs.Prelude.{bytes_eq}
-use Rattle.blart_keys.proofs.Mapped.{find-map, filter-map}
-use Rattle.art_tree.specs.Leaves.{Numbered}
-use Rattle.art_tree.specs.UnderIds.{under_id, under_ids}
-use Rattle.art_tree.proofs.UnderIds.{stood_filter, option_value}
+use Rattle.std.proofs.Common.{sym, ap, ◌∙◌, lit<, option_map}
+use Rattle.blart_keys.proofs.Options.{is_some}
+use Rattle.art_tree.specs.Leaves.{Numbered, leaf_in}
+use Rattle.art_tree.proofs.NumberedPairs.LookUps.{found_at, without_found, without_none}
+use Rattle.art_tree.proofs.NumberedPairs.Outside.{stood_without}
 use Rattle.art_tree.proofs.tree.Tree.take.Goals as goal
+
+pub returns-in_err-spot-clause-rest : goal.returns-in_err-spot-clause-rest
+returns-in_err-spot-clause-rest g c = rw (← c.self.view_is) (without_none g.K.AsBytes.bytes c.self.inside.leaves.pairs c.self.invariant.content c.law.ensures.distinct c.args.query.now c.in_err-spot.ensures.found)
+
+pub take_leaf-pair-requires : goal.take_leaf-pair-requires
+take_leaf-pair-requires g c =
+    let S = c.self.inside.leaves.pairs in
+    let f = found_at g.K.AsBytes.bytes S c.self.invariant.content c.law.ensures.distinct c.args.query.now c.in_ok-spot.spot.id c.in_ok-spot.ensures.found in
+    (lit< tt, (c.self.invariant, (is_some (leaf_in S c.in_ok-spot.spot.id) f.0 f.2, c.in_ok-spot.ensures.spot)))
 
 pub returns-clause-taken : goal.returns-clause-taken
 returns-clause-taken g c =
-    rw (← c.self.view_is, find-map (under_id c.self.inside.cells.ids) (λ (x : Numbered _ _). bytes_eq (g.K.AsBytes.bytes x.1.0) c.args.query.now) c.self.inside.cells.pairs)
-    (c.take.ensures.taken ∙ option_value c.self.inside.cells.ids _)
+    let S = c.self.inside.leaves.pairs in
+    let f = found_at g.K.AsBytes.bytes S c.self.invariant.content c.law.ensures.distinct c.args.query.now c.in_ok-spot.spot.id c.in_ok-spot.ensures.found in
+    rw (← c.self.view_is) (sym c.take_leaf-pair.ensures.value ∙ f.2 ∙ sym (ap (option_map (λ (p : Numbered _ _). p.1)) f.1))
 
 pub returns-clause-rest : goal.returns-clause-rest
 returns-clause-rest g c =
-    rw (← c.self.view_is, c.take.ensures.ids, c.take.ensures.rest)
-    (sym (filter-map (under_id c.self.inside.cells.ids) (λ (x : Numbered _ _). not (bytes_eq (g.K.AsBytes.bytes x.1.0) c.args.query.now)) c.self.inside.cells.pairs))
+    let S = c.self.inside.leaves.pairs in
+    let f = found_at g.K.AsBytes.bytes S c.self.invariant.content c.law.ensures.distinct c.args.query.now c.in_ok-spot.spot.id c.in_ok-spot.ensures.found in
+    rw (← c.self.view_is) (c.take_leaf-pair.ensures.rest ∙ without_found g.K.AsBytes.bytes S c.self.invariant.content c.law.ensures.distinct c.args.query.now c.in_ok-spot.spot.id f.0 f.1 f.2)
 
 pub returns-clause-others : goal.returns-clause-others
 returns-clause-others g c =
-    rw (← c.self.view_is, c.take.ensures.ids, c.take.ensures.rest, ← filter-map (under_id c.self.inside.cells.ids) (λ (x : Numbered _ _). not (bytes_eq (g.K.AsBytes.bytes x.1.0) c.args.query.now)) c.self.inside.cells.pairs)
-    (stood_filter (λ (x : Numbered _ _). not (bytes_eq (g.K.AsBytes.bytes x.1.0) c.args.query.now)) (under_ids c.self.inside.cells.ids c.self.inside.cells.pairs) c.law.ensures.ids)
+    let S = c.self.inside.leaves.pairs in
+    rw (← c.self.view_is, c.take_leaf-pair.ensures.rest) (stood_without S c.in_ok-spot.spot.id c.law.ensures.distinct)

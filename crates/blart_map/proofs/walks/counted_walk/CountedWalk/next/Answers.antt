@@ -43,10 +43,10 @@ invariant_of-self-lent g c w =
     let new = c.step.new.cursor in
     let test = count_test s.cursor s.lent s.left ps s.fits in
     let id = c.in_ok-id.id in
-    let v = c.value_mut_near.result.now in (
+    let v = c.value_mut.result.now in (
       to_count new (Some c.in_ok-id.id) (s.left - 1) (with_value ps id w)
-          (first_fits_with ps c.step.ensures.distinct s.cursor new s.lent test c.in_ok-id.ensures.fits id v c.value_mut_near.ensures.value c.in_ok-id.ensures.passes w)
-          (first_lent_count ps c.step.ensures.distinct s.cursor new s.lent test c.in_ok-id.ensures.fits id v c.value_mut_near.ensures.value c.in_ok-id.ensures.passes w s.left (count_is s.cursor s.lent s.left ps s.fits)),
+          (first_fits_with ps c.step.ensures.distinct s.cursor new s.lent test c.in_ok-id.ensures.fits id v c.value_mut.ensures.value c.in_ok-id.ensures.passes w)
+          (first_lent_count ps c.step.ensures.distinct s.cursor new s.lent test c.in_ok-id.ensures.fits id v c.value_mut.ensures.value c.in_ok-id.ensures.passes w s.left (count_is s.cursor s.lent s.left ps s.fits)),
       tt,
     )
 
@@ -57,14 +57,14 @@ returns g c =
     let new = c.step.new.cursor in
     let test = count_test s.cursor s.lent s.left ps s.fits in
     let id = c.in_ok-id.id in
-    let v = c.value_mut_near.result.now in (
+    let v = c.value_mut.result.now in (
       (
         refl,
-        λ w. at_some _ c.value_mut_near.result (
+        λ w. at_some _ c.value_mut.result (
           refl,
-          is_lent_first ps c.step.ensures.distinct s.cursor new s.lent test c.in_ok-id.ensures.fits id v c.value_mut_near.ensures.value c.in_ok-id.ensures.passes w,
+          is_lent_first ps c.step.ensures.distinct s.cursor new s.lent test c.in_ok-id.ensures.fits id v c.value_mut.ensures.value c.in_ok-id.ensures.passes w,
         ),
-        never_none _ c.value_mut_near.result,
+        never_none _ c.value_mut.result,
       ),
       record { writes_back = tt; end = tt },
     )

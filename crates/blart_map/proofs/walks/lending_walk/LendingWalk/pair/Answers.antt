@@ -4,8 +4,8 @@ use Rattle.art_walk.proofs.Lending.{has_lent, same_left}
 use Rattle.blart_map.proofs.Written.LentPairs.{same_walk, pair_there}
 use Rattle.blart_map.proofs.walks.lending_walk.LendingWalk.pair.Goals as goal
 
-pub leaf_mut_near-requires : goal.leaf_mut_near-requires
-leaf_mut_near-requires g c = let s = c.args.self.now in (lit< tt, has_lent s.cursor s.lent s.map.now s.fits c.unwrap-id.result c.unwrap-id.ensures)
+pub leaf_mut-requires : goal.leaf_mut-requires
+leaf_mut-requires g c = let s = c.args.self.now in (lit< tt, has_lent s.cursor s.lent s.map.now s.fits c.unwrap-id.result c.unwrap-id.ensures)
 
 pub invariant_of-self-lent : goal.invariant_of-self-lent
 invariant_of-self-lent g c w =
@@ -21,7 +21,7 @@ returns g c =
       (refl, λ w. same_walk s w _ (ap (λ o. written_last o s.map.now w) (sym c.unwrap-id.ensures)) _),
       record {
         writes_back = tt;
-        value = pair_there s id _ c.unwrap-id.ensures c.leaf_mut_near.ensures.value;
+        value = pair_there s id _ c.unwrap-id.ensures c.leaf_mut.ensures.value;
         same_left = λ w. same_left s.map.now c.numbers_law.ensures.distinct s.cursor s.lent s.fits w;
       },
     )

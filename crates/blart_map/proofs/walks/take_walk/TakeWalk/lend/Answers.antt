@@ -18,12 +18,12 @@ invariant_of-self-2 g c =
 pub invariant_of-self-lent : goal.invariant_of-self-lent
 invariant_of-self-lent g c w =
     let s = c.args.self.now in
-    (first_fits_with s.map.now c.step.ensures.distinct s.cursor c.step.new.cursor s.lent s.fits c.in_ok-id.ensures.fits c.in_ok-id.id c.value_mut_near.result.now c.value_mut_near.ensures.value c.in_ok-id.ensures.passes w, tt)
+    (first_fits_with s.map.now c.step.ensures.distinct s.cursor c.step.new.cursor s.lent s.fits c.in_ok-id.ensures.fits c.in_ok-id.id c.value_mut.result.now c.value_mut.ensures.value c.in_ok-id.ensures.passes w, tt)
 
 pub returns : goal.returns
 returns g c =
     let s = c.args.self.now in
-    let lent = is_lent_first s.map.now c.step.ensures.distinct s.cursor c.step.new.cursor s.lent s.fits c.in_ok-id.ensures.fits c.in_ok-id.id c.value_mut_near.result.now c.value_mut_near.ensures.value c.in_ok-id.ensures.passes in (
-      (refl, λ w. at_some _ c.value_mut_near.result (refl, lent w), never_none _ c.value_mut_near.result),
+    let lent = is_lent_first s.map.now c.step.ensures.distinct s.cursor c.step.new.cursor s.lent s.fits c.in_ok-id.ensures.fits c.in_ok-id.id c.value_mut.result.now c.value_mut.ensures.value c.in_ok-id.ensures.passes in (
+      (refl, λ w. at_some _ c.value_mut.result (refl, lent w), never_none _ c.value_mut.result),
       record { writes_back = tt; end = tt },
     )

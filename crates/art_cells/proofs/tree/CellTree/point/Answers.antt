@@ -1,7 +1,0 @@
-use Rattle.std.proofs.Common.{◌∙◌, ap, sym}
-use Rattle.art_kinds.specs.Nodes.{at}
-use Rattle.art_cells.proofs.Invariant.Soundness.{rootless}
-use Rattle.art_cells.proofs.tree.CellTree.point.Goals as goal
-
-pub returns-in-None : goal.returns-in-None
-returns-in-None g c = ap (λ t. t.pairs) (sym c.self.view_is) ∙ rootless g.K.AsBytes.bytes c.self.inside.leaves.pairs (at c.self.inside.nodes) c.self.inside.root c.self.invariant.shape c.in-None.is

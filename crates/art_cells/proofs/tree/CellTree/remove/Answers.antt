@@ -1,9 +1,0 @@
-use Rattle.art_rows.proofs.CallerLemmas.{others-without_number, leaf_in-without_now}
-use Rattle.art_cells.proofs.tree.CellTree.remove.Goals as goal
-
-pub returns-clause-others : goal.returns-clause-others
-returns-clause-others g c =
-    rw (← c.self.view_is, c.take_leaf-pair.ensures.rest, c.spot_of-spot.ensures.same) (others-without_number c.self.inside.leaves.pairs c.args.id c.law.ensures.distinct)
-
-pub returns-clause-gone : goal.returns-clause-gone
-returns-clause-gone g c = rw (c.take_leaf-pair.ensures.rest, c.spot_of-spot.ensures.same) (leaf_in-without_now c.self.inside.leaves.pairs c.args.id c.law.ensures.distinct)

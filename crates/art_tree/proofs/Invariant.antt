@@ -1,0 +1,17 @@
+pub mod Built
+pub mod Closing
+pub mod Counting
+pub mod EdgesAbove
+pub mod Exchanging
+pub mod Growing
+pub mod Losing
+pub mod Moving
+pub mod OneEdge
+pub mod Prefixes
+pub mod Pruning
+pub mod Rotating
+pub mod SameShapes
+pub mod SmallShapes
+pub mod Soundness
+pub mod Splitting
+pub mod Subtrees

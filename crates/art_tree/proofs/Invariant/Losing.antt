@@ -1,0 +1,568 @@
+-- One key less: a leaf is removed from its node.
+use Rattle.std.proofs.Common.{◌≡◌, ◌≢◌, ℕ, ◌+◌, ◌<◌, ◌≤◌, List, [], ◌∷◌, ◌++◌, length, take, drop, refl, ap, arith, sym, subst, Option, Some, None, IsSome, ◌∙◌, ◌⊎◌, inl, inr, eq-eqb, length-append}
+use Rattle.std.proofs.lemmas.Bool.{cases_lt, ne_eqb}
+use Rattle.std.proofs.lemmas.Bool.Decides.{eqb_tells}
+use Rattle.art_tree.specs.Begins.{Bytes, Begins, next_byte}
+use Rattle.blart_keys.specs.Bytes.{common}
+use Rattle.art_tree.specs.Invariant.EdgesAbove.{LeadsTo, TurnsTo, edge_front}
+use Rattle.art_kinds.specs.Nodes.{Node, DropsEdge, Frees}
+use Rattle.art_kinds.specs.Edges.{child_at, Ascends}
+use Rattle.art_tree.specs.Calls.Removing.{Loses, CutsAfter}
+use Rattle.art_tree.specs.Invariant.Shape.{Shape, Keeps, kept_prefix, Covers, CoversLeaf, CoversNode, NodeFits, RootFits, Parts}
+use Rattle.art_kinds.specs.declared.records.ids.Edge.{Edge}
+use Rattle.art_kinds.specs.declared.records.ids.Child.{Child}
+use Rattle.art_kinds.specs.declared.records.ids.Child.TheVariants.{Leaf, Inner}
+use Rattle.art_tree.proofs.BeginsLemmas.{Begins-length, Begins-more, Begins-trans, Begins-next, Begins-linear, Begins-equal, Begins-edge_front, Bytes-cases, common-left, common-greatest, common_comm}
+use Rattle.art_tree.proofs.Invariant.Growing.{Parts-two, covers_above}
+use Rattle.art_tree.proofs.Invariant.EdgesAbove.{Turns, turned_node, turns_after}
+use Rattle.art_tree.proofs.Invariant.OneEdge.{one_above}
+use Rattle.art_tree.proofs.Invariant.Prefixes.{keeps_changed, live_after, live_before, cut_node, cut_was, cut_leads, turned_prefix}
+use Rattle.art_tree.proofs.Invariant.Splitting.{Recut}
+use Rattle.art_tree.proofs.Invariant.Subtrees.{above_leaf, above_node}
+use Rattle.blart_keys.proofs.Options.{is_some, some_of, not_some, same_some}
+
+-- the node p, which had the child c1 and one other, is removed, and the edge to it now leads to c1
+pub record Merges (old new : ℕ → Option Node) (front_of : ℕ → Bytes) (root root' : Option Child) (g0 : Bytes) (c1 : Child) (was : Node) (p b b1 : ℕ) : Type 0 where
+  pub gone : new p ≡ None
+  pub high : child_at was.edges b1 ≡ Some c1
+  pub two : b ≢ b1
+  pub only : (c : ℕ) → IsSome (child_at was.edges c) → (c ≡ b) ⊎ (c ≡ b1)
+  pub above : ((g0 ≡ []) × (root ≡ Some (Inner p)) × (root' ≡ Some c1)) ⊎ ((m : ℕ) × (b : ℕ) × IsSome (old m) × (g0 ≡ front_of m ++ b ∷ []) × (root' ≡ root))
+  pub others : (m : ℕ) (x : Node) → m ≢ p → old m ≡ Some x → (x' : Node) × (new m ≡ Some x') × Turns x x' (front_of m) g0 (Inner p) c1
+  pub no_more : (m : ℕ) → old m ≡ None → new m ≡ None
+
+module _ {P : ℕ} (keys keys' : ℕ → Option Bytes) (nodes : ℕ → Option Node) (root : Option Child) (p i b : ℕ) (k : Bytes) (s : Shape P keys nodes root)
+    (loses : Loses keys keys' i k) (was : Node) (was_is : nodes p ≡ Some was) (low : child_at was.edges b ≡ Some (Leaf i)) where
+  abbrev t : Bytes
+  t = s.front_of p
+
+  kept : (j : ℕ) (l : Bytes) → keys j ≡ Some l → j ≢ i → keys' j ≡ Some l
+  kept j l e h = loses.others j h ∙ e
+
+  not_gone : (j : ℕ) (l : Bytes) → keys' j ≡ Some l → j ≢ i
+  not_gone j l e h = let f : keys' i ≡ Some l = rw (← h) e in let g : keys' i ≡ None = loses.gone in cc
+
+  was_key : (j : ℕ) (l : Bytes) → keys' j ≡ Some l → keys j ≡ Some l
+  was_key j l e = sym (loses.others j (not_gone j l e)) ∙ e
+
+  live_p : IsSome (nodes p)
+  live_p = is_some (nodes p) was was_is
+
+  fits_p : NodeFits keys nodes s.front_of t was
+  fits_p = s.node p was was_is
+
+  leaf_i : CoversLeaf keys (t ++ b ∷ []) i
+  leaf_i = fits_p.below b (Leaf i) low
+
+  k_front : Begins (t ++ b ∷ []) k
+  k_front =
+      let e : keys i ≡ Some k = loses.was in
+      let f : keys i ≡ Some leaf_i.key = leaf_i.is in
+      let h : leaf_i.key ≡ k = cc in
+      rw (← h) leaf_i.front
+
+  -- only the node p has an edge to the leaf i
+  one_leaf : (m : ℕ) → IsSome (nodes m) → (c : ℕ) → CoversLeaf keys (s.front_of m ++ c ∷ []) i → m ≡ p
+  one_leaf m live c cov =
+      let f : Bytes = s.front_of m in
+      let e : keys i ≡ Some k = loses.was in
+      let e2 : keys i ≡ Some cov.key = cov.is in
+      let h : cov.key ≡ k = cc in
+      let gk : Begins (f ++ c ∷ []) k = rw (← h) cov.front in
+      let fk : Begins f k = Begins-edge_front f k c gk in
+      let tk : Begins t k = Begins-edge_front t k b k_front in
+      let l1 : length (f ++ c ∷ []) ≡ length f + 1 = length-append f (c ∷ []) in
+      let l2 : length (t ++ b ∷ []) ≡ length t + 1 = length-append t (b ∷ []) in
+      elim (cases_lt (length f) (length t)) [
+        | inl lt ↦ absurd (above_leaf keys nodes root s p live_p (f ++ c ∷ []) i cov (Begins-linear (f ++ c ∷ []) t k gk tk (omega arith)))
+        | inr ge ↦
+            elim (cases_lt (length t) (length f)) [
+              | inl gt ↦ absurd (above_leaf keys nodes root s m live (t ++ b ∷ []) i leaf_i (Begins-linear (t ++ b ∷ []) f k k_front fk (omega arith)))
+              | inr le ↦ s.apart m p live live_p (Begins-equal f t (Begins-linear f t k fk tk le) ge)
+            ]
+      ]
+
+  -- a key other than that of i below a child
+  other_key : (g : Bytes) (c : Child) → c ≢ Leaf i → Covers keys nodes s.front_of g c → (j : ℕ) × (l : Bytes) × (keys' j ≡ Some l) × Begins g l
+  other_key g (Leaf j) h cov =
+      let off : j ≢ i = λ e. h (ap (λ (j : ℕ). Leaf j) e) in
+      (j, cov.key, kept j cov.key cov.is off, cov.front)
+  other_key g (Inner m) h cov =
+      let x = some_of (nodes m) cov.live in
+      let q = (s.node m x.0 x.1).parts in
+      elim (eqb_tells q.i i) [
+        | inl e ↦
+            let off : q.j ≢ i = λ f. Parts-two keys (s.front_of m) q i e.1 f in
+            (q.j, q.l, kept q.j q.l q.l_is off, Begins-trans g (s.front_of m) q.l cov.front q.l_front)
+        | inr e ↦ (q.i, q.k, kept q.i q.k q.k_is e.1, Begins-trans g (s.front_of m) q.k cov.front q.k_front)
+      ]
+
+  leaf_kept : (g : Bytes) (j : ℕ) → j ≢ i → CoversLeaf keys g j → CoversLeaf keys' g j
+  leaf_kept g j off c = record { key = c.key; is = kept j c.key c.is off; front = c.front; only = λ j' l e h. c.only j' l (was_key j' l e) h }
+
+  -- a remaining key with the same next byte
+  instead : (m : ℕ) (x : Node) → nodes m ≡ Some x → m ≢ p → (j : ℕ) (l : Bytes) → keys j ≡ Some l → Begins (s.front_of m) l
+      → (j' : ℕ) × (l' : Bytes) × (keys' j' ≡ Some l') × Begins (s.front_of m) l' × (next_byte (s.front_of m) l' ≡ next_byte (s.front_of m) l)
+  instead m x is off j l e h =
+      let g : Bytes = s.front_of m in
+      let live : IsSome (nodes m) = is_some (nodes m) x is in
+      let f : NodeFits keys nodes s.front_of g x = s.node m x is in
+      let c = some_of (child_at x.edges (next_byte g l)) (f.edge j l e h) in
+      let cov : Covers keys nodes s.front_of (g ++ next_byte g l ∷ []) c.0 = f.below (next_byte g l) c.0 c.1 in
+      let o = other_key (g ++ next_byte g l ∷ []) c.0 (λ z. off (one_leaf m live (next_byte g l) (subst (λ (c : Child). Covers keys nodes s.front_of (g ++ next_byte g l ∷ []) c) z cov))) cov in
+      (o.0, o.1, o.2, Begins-edge_front g o.1 (next_byte g l) o.3, Begins-next g o.1 (next_byte g l) o.3)
+
+  parts_left : (m : ℕ) (x : Node) → nodes m ≡ Some x → m ≢ p → Parts keys' (s.front_of m)
+  parts_left m x is off =
+      let q = (s.node m x is).parts in
+      let u = instead m x is off q.i q.k q.k_is q.k_front in
+      let v = instead m x is off q.j q.l q.l_is q.l_front in
+      record {
+        i = u.0;
+        j = v.0;
+        k = u.1;
+        l = v.1;
+        k_is = u.2;
+        l_is = v.2;
+        k_front = u.3;
+        l_front = v.3;
+        differ = λ e. q.differ (sym u.4 ∙ e ∙ v.4);
+      }
+
+  module _ (nodes' : ℕ → Option Node) (root' : Option Child) (g0 : Bytes) (c1 : Child) (b1 : ℕ) (merges : Merges nodes nodes' s.front_of root root' g0 c1 was p b b1) (covers0 : CoversNode keys nodes s.front_of g0 p)
+      (recut : Recut P nodes nodes' s.front_of g0 c1) (one : (a : Option (ℕ × ℕ)) (j : ℕ) → LeadsTo nodes root a (Inner j) → c1 ≡ Inner j → a ≡ Some (p, b1)) where
+    -- only one edge leads to the node p
+    one_edge : (m : ℕ) → IsSome (nodes m) → (c : ℕ) → CoversNode keys nodes s.front_of (s.front_of m ++ c ∷ []) p → s.front_of m ++ c ∷ [] ≡ g0
+    one_edge m live c cov =
+        let f : Bytes = s.front_of m in
+        let g : Bytes = f ++ c ∷ [] in
+        let gt : Begins g t = cov.front in
+        let g0t : Begins g0 t = covers0.front in
+        let a1 : length g ≤ length t = Begins-length g t gt in
+        let a2 : length g0 ≤ length t = Begins-length g0 t g0t in
+        let l1 : length g ≡ length f + 1 = length-append f (c ∷ []) in
+        let ft : Begins f t = Begins-edge_front f t c gt in
+        elim (cases_lt (length g0) (length g)) [
+          | inl lt ↦
+              let z : length t ≤ length f = Begins-length t f (above_node keys nodes root s m live g0 p covers0 (Begins-linear g0 f t g0t ft (omega arith))) in
+              absurd (omega arith)
+          | inr le ↦
+              elim merges.above [
+                | inl a ↦ let z : length g0 ≡ 0 = ap length a.0 in absurd (omega arith)
+                | inr a ↦
+                    let f0 : Bytes = s.front_of a.0 in
+                    let l2 : length g0 ≡ length f0 + 1 = ap length a.3 ∙ length-append f0 (a.1 ∷ []) in
+                    let f0t : Begins f0 t = Begins-edge_front f0 t a.1 (rw (← a.3) g0t) in
+                    elim (cases_lt (length g) (length g0)) [
+                      | inl lt ↦
+                          let z : length t ≤ length f0 = Begins-length t f0 (above_node keys nodes root s a.0 a.2 g p cov (Begins-linear g f0 t gt f0t (omega arith))) in
+                          absurd (omega arith)
+                      | inr same ↦ Begins-equal g g0 (Begins-linear g g0 t gt g0t le) same
+                    ]
+              ]
+        ]
+
+    live_kept : (m : ℕ) → m ≢ p → IsSome (nodes m) → IsSome (nodes' m)
+    live_kept m h live = let x = some_of (nodes m) live in let y = merges.others m x.0 h x.1 in is_some (nodes' m) y.0 y.1
+
+    node_kept : (g : Bytes) (m : ℕ) → m ≢ p → CoversNode keys nodes s.front_of g m → CoversNode keys' nodes' s.front_of g m
+    node_kept g m off c = record { live = live_kept m off c.live; front = c.front; only = λ j l e h. c.only j l (was_key j l e) h }
+
+    edge_kept : (m : ℕ) → IsSome (nodes m) → m ≢ p → (b' : ℕ) (c : Child) → s.front_of m ++ b' ∷ [] ≢ g0 → Covers keys nodes s.front_of (s.front_of m ++ b' ∷ []) c → Covers keys' nodes' s.front_of (s.front_of m ++ b' ∷ []) c
+    edge_kept m live off b' (Leaf j) far c =
+        elim (eqb_tells j i) [
+          | inl e ↦ absurd (off (one_leaf m live b' (subst (λ (j : ℕ). CoversLeaf keys (s.front_of m ++ b' ∷ []) j) e.1 c)))
+          | inr e ↦ leaf_kept _ j e.1 c
+        ]
+    edge_kept m live off b' (Inner m') far c =
+        elim (eqb_tells m' p) [
+          | inl e ↦ absurd (far (one_edge m live b' (subst (λ (m' : ℕ). CoversNode keys nodes s.front_of (s.front_of m ++ b' ∷ []) m') e.1 c)))
+          | inr e ↦ node_kept _ m' e.1 c
+        ]
+
+    -- a remaining key that begins with t continues with b1
+    left_p : (j : ℕ) (l : Bytes) → keys' j ≡ Some l → Begins t l → Begins (t ++ b1 ∷ []) l
+    left_p j l e h =
+        let old : keys j ≡ Some l = was_key j l e in
+        let m : Begins (t ++ next_byte t l ∷ []) l = Begins-more t l h (fits_p.longer j l old h) in
+        elim (merges.only (next_byte t l) (fits_p.edge j l old h)) [
+          | inl q ↦ absurd (not_gone j l e (leaf_i.only j l old (subst (λ (c : ℕ). Begins (t ++ c ∷ []) l) q m)))
+          | inr q ↦ subst (λ (c : ℕ). Begins (t ++ c ∷ []) l) q m
+        ]
+
+    raised : (c : Child) → Covers keys nodes s.front_of (t ++ b1 ∷ []) c → Covers keys' nodes' s.front_of g0 c
+    raised (Leaf j) c =
+        let off : j ≢ i = λ e. (
+        let f : keys i ≡ Some c.key = rw (← e) c.is in
+        let f2 : keys i ≡ Some k = loses.was in
+        let h : c.key ≡ k = cc in
+        let u : next_byte t k ≡ b1 = Begins-next t k b1 (rw (← h) c.front) in
+        let v : next_byte t k ≡ b = Begins-next t k b k_front in
+        merges.two (sym v ∙ u)) in
+        record {
+          key = c.key;
+          is = kept j c.key c.is off;
+          front = Begins-trans g0 t c.key covers0.front (Begins-edge_front t c.key b1 c.front);
+          only = λ j' l e h. c.only j' l (was_key j' l e) (left_p j' l e (covers0.only j' l (was_key j' l e) h));
+        }
+    raised (Inner m) c =
+        let off : m ≢ p = λ e. (
+        let a : length (t ++ b1 ∷ []) ≤ length (s.front_of m) = Begins-length _ _ c.front in
+        let z : length (s.front_of m) ≡ length t = ap (λ m. length (s.front_of m)) e in
+        let l : length (t ++ b1 ∷ []) ≡ length t + 1 = length-append t (b1 ∷ []) in
+        omega arith) in
+        record {
+          live = live_kept m off c.live;
+          front = Begins-trans g0 t (s.front_of m) covers0.front (Begins-edge_front t (s.front_of m) b1 c.front);
+          only = λ j l e h. c.only j l (was_key j l e) (left_p j l e (covers0.only j l (was_key j l e) h));
+        }
+
+    fits_left : (m : ℕ) (x x' : Node) → nodes m ≡ Some x → m ≢ p → Turns x x' (s.front_of m) g0 (Inner p) c1 → NodeFits keys' nodes' s.front_of (s.front_of m) x'
+    fits_left m x x' is off r =
+        let g : Bytes = s.front_of m in
+        let f : NodeFits keys nodes s.front_of g x = s.node m x is in
+        let live : IsSome (nodes m) = is_some (nodes m) x is in
+        record {
+          depth = r.depth ∙ f.depth;
+          below = λ b' c e.
+              elim (Bytes-cases (g ++ b' ∷ []) g0) [
+                | inl at ↦
+                    let a : child_at x'.edges b' ≡ Some c1 = r.now b' at in
+                    let h : c ≡ c1 = cc in
+                    rw (at, h) (raised c1 (fits_p.below b1 c1 merges.high))
+                | inr far ↦
+                    let a : child_at x.edges b' ≡ Some c = sym (r.rest b' far) ∙ e in
+                    edge_kept m live off b' c far (f.below b' c a)
+              ];
+          longer = λ j l e h. f.longer j l (was_key j l e) h;
+          edge = λ j l e h.
+              let y : IsSome (child_at x.edges (next_byte g l)) = f.edge j l (was_key j l e) h in
+              elim (Bytes-cases (g ++ next_byte g l ∷ []) g0) [
+                | inl at ↦ is_some (child_at x'.edges (next_byte g l)) c1 (r.now (next_byte g l) at)
+                | inr far ↦ let P : Option Child → Type 0 = λ o. IsSome o in subst P (sym (r.rest (next_byte g l) far)) y
+              ];
+          parts = parts_left m x is off;
+          ascends = r.ascends f.ascends;
+        }
+
+    was_live : (m : ℕ) (x : Node) → nodes' m ≡ Some x → (o : Option Node) → nodes m ≡ o → (w : Node) × (nodes m ≡ Some w)
+    was_live m x is None e = let h : nodes' m ≡ None = merges.no_more m e in absurd cc
+    was_live m x is (Some w) e = (w, e)
+
+    not_p : (m : ℕ) (x : Node) → nodes' m ≡ Some x → m ≢ p
+    not_p m x is e = let f : nodes' p ≡ Some x = rw (← e) is in let g : nodes' p ≡ None = merges.gone in cc
+
+    node_fits : (m : ℕ) (x : Node) → nodes' m ≡ Some x → NodeFits keys' nodes' s.front_of (s.front_of m) x
+    node_fits m x is =
+        let off : m ≢ p = not_p m x is in
+        let w = was_live m x is (nodes m) refl in
+        let y = merges.others m w.0 off w.1 in
+        let a : nodes' m ≡ Some y.0 = y.1 in
+        let h : y.0 ≡ x = cc in
+        subst (λ (x : Node). NodeFits keys' nodes' s.front_of (s.front_of m) x) h (fits_left m w.0 y.0 w.1 off y.2)
+
+    joined_left : (a c : ℕ) (x y : Bytes) → keys' a ≡ Some x → keys' c ≡ Some y → a ≢ c → (m : ℕ) × IsSome (nodes' m) × (s.front_of m ≡ common x y)
+    joined_left a c x y ax cy apart =
+        let r = s.joined a c x y (was_key a x ax) (was_key c y cy) apart in
+        let off : r.0 ≢ p = λ e. (
+        let z : t ≡ common x y = ap s.front_of (sym e) ∙ r.2 in
+        let tx : Begins t x = rw z (common-left x y) in
+        let ty : Begins t y = rw (z, common_comm x y) (common-left y x) in
+        let h : Begins (t ++ b1 ∷ []) (common x y) = common-greatest (t ++ b1 ∷ []) x y (left_p a x ax tx) (left_p c y cy ty) in
+        let l1 : length (t ++ b1 ∷ []) ≤ length (common x y) = Begins-length _ _ h in
+        let l2 : length (t ++ b1 ∷ []) ≡ length t + 1 = length-append t (b1 ∷ []) in
+        let l3 : length t ≡ length (common x y) = ap length z in
+        omega arith) in
+        (r.0, live_kept r.0 off r.1, r.2)
+
+    -- the root, if it was not p
+    top_kept : (r : Option Child) → root ≡ r → (m : ℕ) (c : ℕ) → IsSome (nodes m) → g0 ≡ s.front_of m ++ c ∷ [] → RootFits keys' nodes' s.front_of r
+    top_kept None e m c live at = λ j.
+        let h : RootFits keys nodes s.front_of None = subst (λ (r : Option Child). RootFits keys nodes s.front_of r) e s.top in
+        let a : keys i ≡ None = h i in
+        let f : keys i ≡ Some k = loses.was in
+        absurd cc
+    top_kept (Some (Leaf j)) e m c live at =
+        let h : CoversLeaf keys [] j = subst (λ (r : Option Child). RootFits keys nodes s.front_of r) e s.top in
+        absurd (above_leaf keys nodes root s p live_p [] j h tt)
+    top_kept (Some (Inner n)) e m c live at =
+        let h : CoversNode keys nodes s.front_of [] n = subst (λ (r : Option Child). RootFits keys nodes s.front_of r) e s.top in
+        let off : n ≢ p = λ z. (
+        let cov : CoversNode keys nodes s.front_of [] p = subst (λ (n : ℕ). CoversNode keys nodes s.front_of [] n) z h in
+        let l1 : length t ≤ length (s.front_of m) = Begins-length t (s.front_of m) (above_node keys nodes root s m live [] p cov tt) in
+        let l2 : length g0 ≡ length (s.front_of m) + 1 = ap length at ∙ length-append (s.front_of m) (c ∷ []) in
+        let l3 : length g0 ≤ length t = Begins-length g0 t covers0.front in
+        omega arith) in
+        node_kept [] n off h
+
+    top_fits : RootFits keys' nodes' s.front_of root'
+    top_fits =
+        elim merges.above [
+          | inl a ↦ rw a.2 (subst (λ (g : Bytes). Covers keys' nodes' s.front_of g c1) a.0 (raised c1 (fits_p.below b1 c1 merges.high)))
+          | inr a ↦ rw a.4 (top_kept root refl a.0 a.1 a.2 a.3)
+        ]
+
+    -- the child that moved up keeps the bytes that its front has after the edge above
+    kept_up : (g : Bytes) (j : ℕ) (x' : Node) → c1 ≡ Inner j → g ≡ g0 → nodes' j ≡ Some x' → x'.prefix ≡ take P (drop (length g) (s.front_of j))
+    kept_up g j x' e same is =
+        let w = was_live j x' is (nodes j) refl in
+        recut.own j w.0 x' w.1 is e ∙ ap (λ (z : Bytes). take P (drop (length z) (s.front_of j))) (sym same)
+
+    -- and each other node keeps its prefix
+    kept_stays : (a : Option (ℕ × ℕ)) (j : ℕ) (x' : Node) → LeadsTo nodes root a (Inner j) → (a ≡ Some (p, b1) → ⊥) → nodes' j ≡ Some x' → x'.prefix ≡ kept_prefix P s.front_of a j
+    kept_stays a j x' l far is =
+        let w = was_live j x' is (nodes j) refl in
+        recut.others j w.0 x' w.1 is (λ z. far (one a j l z)) ∙ s.keeps a j w.0 l w.1
+
+    kept_merged : Keeps P nodes' root' s.front_of
+    kept_merged None j x' l is =
+        elim merges.above [
+          | inl a ↦ kept_up [] j x' (let e : Some c1 ≡ Some (Inner j) = sym a.2 ∙ l in cc) (sym a.0) is
+          | inr a ↦ kept_stays None j x' (sym a.4 ∙ l) (λ e. absurd cc) is
+        ]
+    kept_merged (Some (q, c)) j x' l is =
+        let off : q ≢ p = not_p q l.0 l.1 in
+        let w = was_live q l.0 l.1 (nodes q) refl in
+        let y = merges.others q w.0 off w.1 in
+        let f : nodes' q ≡ Some y.0 = y.1 in
+        let g : nodes' q ≡ Some l.0 = l.1 in
+        let z : l.0 ≡ y.0 = cc in
+        let there : child_at y.0.edges c ≡ Some (Inner j) = ap (λ (x : Node). child_at x.edges c) (sym z) ∙ l.2 in
+        elim (Bytes-cases (s.front_of q ++ c ∷ []) g0) [
+          | inl at ↦ kept_up (s.front_of q ++ c ∷ []) j x' (let e : child_at y.0.edges c ≡ Some c1 = y.2.now c at in cc) at is
+          | inr far ↦ kept_stays (Some (q, c)) j x' (w.0, w.1, sym (y.2.rest c far) ∙ there) (λ e. off (let h : (q, c) ≡ (p, b1) = cc in ap (λ (w : ℕ × ℕ). w.0) h)) is
+        ]
+
+    -- the tree with one node less
+    pub shape_merged : Shape P keys' nodes' root'
+    shape_merged = record {
+      front_of = s.front_of;
+      top = top_fits;
+      node = node_fits;
+      joined = joined_left;
+      apart = λ a c la lc e.
+          let x = some_of (nodes' a) la in
+          let w = was_live a x.0 x.1 (nodes a) refl in
+          let y = some_of (nodes' c) lc in
+          let v = was_live c y.0 y.1 (nodes c) refl in
+          s.apart a c (is_some (nodes a) w.0 w.1) (is_some (nodes c) v.0 v.1) e;
+      keeps = kept_merged;
+    }
+
+  -- ---- a node with three edges or more
+
+  module _ (nodes' : ℕ → Option Node) (drops : DropsEdge nodes nodes' p b) (more : 2 < length was.edges) where
+    dropped_was : drops.was ≡ was
+    dropped_was = let f : nodes p ≡ Some drops.was = drops.was_is in let g : nodes p ≡ Some was = was_is in cc
+
+    kept_child : (c : ℕ) → c ≢ b → child_at drops.is.edges c ≡ child_at was.edges c
+    kept_child c off = drops.edges.rest c off ∙ ap (λ (x : Node). child_at x.edges c) dropped_was
+
+    still_live : (m : ℕ) → IsSome (nodes m) → IsSome (nodes' m)
+    still_live = live_after nodes nodes' p drops.was drops.is drops.was_is drops.is_is drops.others
+
+    then_live : (m : ℕ) → IsSome (nodes' m) → IsSome (nodes m)
+    then_live = live_before nodes nodes' p drops.was drops.is drops.was_is drops.is_is drops.others
+
+    node_stays : (g : Bytes) (m : ℕ) → CoversNode keys nodes s.front_of g m → CoversNode keys' nodes' s.front_of g m
+    node_stays g m c = record { live = still_live m c.live; front = c.front; only = λ j l e h. c.only j l (was_key j l e) h }
+
+    -- only the edge at b leads to the leaf
+    one_byte : (c : ℕ) → CoversLeaf keys (t ++ c ∷ []) i → c ≡ b
+    one_byte c cov =
+        let e : keys i ≡ Some k = loses.was in
+        let f : keys i ≡ Some cov.key = cov.is in
+        let h : cov.key ≡ k = cc in
+        let g : Begins (t ++ c ∷ []) k = rw (← h) cov.front in
+        sym (Begins-next t k c g) ∙ Begins-next t k b k_front
+
+    edge_stays : (m : ℕ) → IsSome (nodes m) → (c : ℕ) (d : Child) → (m ≡ p → c ≢ b) → Covers keys nodes s.front_of (s.front_of m ++ c ∷ []) d → Covers keys' nodes' s.front_of (s.front_of m ++ c ∷ []) d
+    edge_stays m live c (Leaf j) off cov =
+        elim (eqb_tells j i) [
+          | inl e ↦
+              let cov' : CoversLeaf keys (s.front_of m ++ c ∷ []) i = subst (λ (j : ℕ). CoversLeaf keys (s.front_of m ++ c ∷ []) j) e.1 cov in
+              let same : m ≡ p = one_leaf m live c cov' in
+              absurd (off same (one_byte c (subst (λ (m : ℕ). CoversLeaf keys (s.front_of m ++ c ∷ []) i) same cov')))
+          | inr e ↦ leaf_kept (s.front_of m ++ c ∷ []) j e.1 cov
+        ]
+    edge_stays m live c (Inner m') off cov = node_stays (s.front_of m ++ c ∷ []) m' cov
+
+    other_fits : (m : ℕ) (x : Node) → nodes m ≡ Some x → m ≢ p → NodeFits keys' nodes' s.front_of (s.front_of m) x
+    other_fits m x is off =
+        let f : NodeFits keys nodes s.front_of (s.front_of m) x = s.node m x is in
+        record {
+          depth = f.depth;
+          below = λ c d e. edge_stays m (is_some (nodes m) x is) c d (λ same. absurd (off same)) (f.below c d e);
+          longer = λ j l e h. f.longer j l (was_key j l e) h;
+          edge = λ j l e h. f.edge j l (was_key j l e) h;
+          parts = parts_left m x is off;
+          ascends = f.ascends;
+        }
+
+    not_dropped : (c : ℕ) (d : Child) → child_at drops.is.edges c ≡ Some d → c ≢ b
+    not_dropped c d e same = let f : child_at drops.is.edges b ≡ Some d = rw (← same) e in let g : child_at drops.is.edges b ≡ None = drops.edges.gone in cc
+
+    kept_cover : (c : ℕ) (d : Child) → child_at drops.is.edges c ≡ Some d → Covers keys nodes s.front_of (t ++ c ∷ []) d
+    kept_cover c d e = fits_p.below c d (sym (kept_child c (not_dropped c d e)) ∙ e)
+
+    -- a remaining key at a remaining edge
+    key_left : (c : ℕ) (d : Child) → child_at drops.is.edges c ≡ Some d → (j : ℕ) × (l : Bytes) × (keys' j ≡ Some l) × Begins (t ++ c ∷ []) l
+    key_left c d e =
+        let off : d ≢ Leaf i = λ z. not_dropped c d e (one_byte c (subst (λ (d : Child). Covers keys nodes s.front_of (t ++ c ∷ []) d) z (kept_cover c d e))) in
+        other_key (t ++ c ∷ []) d off (kept_cover c d e)
+
+    parts_stay : Parts keys' t
+    parts_stay = go drops.is.edges drops.edges.ascends (let e : length was.edges ≡ length drops.was.edges = ap (λ (x : Node). length x.edges) (sym dropped_was) in let f : length drops.is.edges + 1 ≡ length drops.was.edges = drops.edges.shorter in omega arith) (λ c d e. key_left c d e)
+      where
+        go : (es : List Edge) → Ascends es → 2 ≤ length es → ((c : ℕ) (d : Child) → child_at es c ≡ Some d → (j : ℕ) × (l : Bytes) × (keys' j ≡ Some l) × Begins (t ++ c ∷ []) l) → Parts keys' t
+        go [] a l h = absurd (omega arith)
+        go (x ∷ []) a l h = absurd (omega arith)
+        go (x ∷ y ∷ es) a l h =
+            let lt : x.byte < y.byte = a.0 in
+            let first : child_at (x ∷ y ∷ es) x.byte ≡ Some x.to = rw (eq-eqb x.byte x.byte refl) refl in
+            let second : child_at (x ∷ y ∷ es) y.byte ≡ Some y.to = rw (ne_eqb x.byte y.byte (λ e. omega arith), eq-eqb y.byte y.byte refl) refl in
+            let u = h x.byte x.to first in
+            let v = h y.byte y.to second in
+            let ux : next_byte t u.1 ≡ x.byte = Begins-next t u.1 x.byte u.3 in
+            let vy : next_byte t v.1 ≡ y.byte = Begins-next t v.1 y.byte v.3 in
+            record {
+              i = u.0;
+              j = v.0;
+              k = u.1;
+              l = v.1;
+              k_is = u.2;
+              l_is = v.2;
+              k_front = Begins-edge_front t u.1 x.byte u.3;
+              l_front = Begins-edge_front t v.1 y.byte v.3;
+              differ = λ e. (let z : x.byte ≡ y.byte = sym ux ∙ e ∙ vy in omega arith);
+            }
+
+    dropped_fits : NodeFits keys' nodes' s.front_of t drops.is
+    dropped_fits = record {
+      depth = drops.depth ∙ ap (λ (x : Node). x.depth) dropped_was ∙ fits_p.depth;
+      below = λ c d e. edge_stays p live_p c d (λ same. not_dropped c d e) (kept_cover c d e);
+      longer = λ j l e h. fits_p.longer j l (was_key j l e) h;
+      edge = λ j l e h.
+          let off : next_byte t l ≢ b = λ z. not_gone j l e (leaf_i.only j l (was_key j l e) (subst (λ (c : ℕ). Begins (t ++ c ∷ []) l) z (Begins-more t l h (fits_p.longer j l (was_key j l e) h)))) in
+          same_some (child_at was.edges (next_byte t l)) (child_at drops.is.edges (next_byte t l)) (sym (kept_child (next_byte t l) off)) (fits_p.edge j l (was_key j l e) h);
+      parts = parts_stay;
+      ascends = drops.edges.ascends;
+    }
+
+    all_fit : (m : ℕ) (x : Node) → nodes' m ≡ Some x → NodeFits keys' nodes' s.front_of (s.front_of m) x
+    all_fit m x is =
+        elim (eqb_tells m p) [
+          | inl e ↦
+              let f : nodes' p ≡ Some x = rw (← e.1) is in
+              let g : nodes' p ≡ Some drops.is = drops.is_is in
+              let h : drops.is ≡ x = cc in
+              subst (λ (m : ℕ). NodeFits keys' nodes' s.front_of (s.front_of m) x) (sym e.1) (subst (λ (x : Node). NodeFits keys' nodes' s.front_of t x) h dropped_fits)
+          | inr e ↦ other_fits m x (sym (drops.others m e.1) ∙ is) e.1
+        ]
+
+    top_stays : (r : Option Child) → root ≡ r → RootFits keys' nodes' s.front_of r
+    top_stays None e = λ j.
+        let h : RootFits keys nodes s.front_of None = subst (λ (r : Option Child). RootFits keys nodes s.front_of r) e s.top in
+        let a : keys i ≡ None = h i in
+        let f : keys i ≡ Some k = loses.was in
+        absurd cc
+    top_stays (Some (Leaf j)) e = absurd (above_leaf keys nodes root s p live_p [] j (subst (λ (r : Option Child). RootFits keys nodes s.front_of r) e s.top) tt)
+    top_stays (Some (Inner n)) e = node_stays [] n (subst (λ (r : Option Child). RootFits keys nodes s.front_of r) e s.top)
+
+    -- the tree if a node with three edges or more lost one, which led to a leaf
+    pub shape_dropped : Shape P keys' nodes' root
+    shape_dropped = record {
+      front_of = s.front_of;
+      top = top_stays root refl;
+      node = all_fit;
+      joined = λ a c x y ax cy off. (let r = s.joined a c x y (was_key a x ax) (was_key c y cy) off in (r.0, still_live r.0 r.1, r.2));
+      apart = λ a c la lc e. s.apart a c (then_live a la) (then_live c lc) e;
+      keeps = keeps_changed nodes nodes' root p drops.was drops.is drops.was_is drops.is_is drops.others drops.prefix (λ c j e. sym (drops.edges.rest c (not_dropped c (Inner j) e)) ∙ e) P s.front_of s.keeps;
+    }
+
+  -- ---- a node with two edges
+
+  module _ (cut mid new : ℕ → Option Node) (root' : Option Child) (b1 : ℕ) (c1 : Child) (high : child_at was.edges b1 ≡ Some c1) (two : b ≢ b1) (just : length was.edges ≡ 2) (frees : Frees mid new p) where
+    -- it has no other edges
+    pub only_two : (es : List Edge) → length es ≡ 2 → IsSome (child_at es b) → IsSome (child_at es b1) → (c : ℕ) → IsSome (child_at es c) → (c ≡ b) ⊎ (c ≡ b1)
+    only_two [] l hb hb1 c hc = absurd (omega arith)
+    only_two (x ∷ []) l hb hb1 c hc = absurd (omega arith)
+    only_two (x ∷ y ∷ z ∷ es) l hb hb1 c hc = absurd (omega arith)
+    only_two (x ∷ y ∷ []) l hb hb1 c hc =
+        elim (one_of c hc) [
+          | inl p ↦
+              elim (one_of b hb) [
+                | inl q ↦ inl (sym p ∙ q)
+                | inr q ↦ elim (one_of b1 hb1) [ inl r ↦ inr (sym p ∙ r) | inr r ↦ absurd (two (sym q ∙ r)) ]
+              ]
+          | inr p ↦
+              elim (one_of b hb) [
+                | inl q ↦ elim (one_of b1 hb1) [ inl r ↦ absurd (two (sym q ∙ r)) | inr r ↦ inr (sym p ∙ r) ]
+                | inr q ↦ inl (sym p ∙ q)
+              ]
+        ]
+      where
+        one_of : (d : ℕ) → IsSome (child_at (x ∷ y ∷ []) d) → (x.byte ≡ d) ⊎ (y.byte ≡ d)
+        one_of d h =
+            elim (eqb_tells x.byte d) [
+              | inl e ↦ inl e.1
+              | inr e ↦ elim (eqb_tells y.byte d) [ inl f ↦ inr f.1 | inr f ↦ absurd (not_some (child_at (x ∷ y ∷ []) d) (rw (e.0, f.0) refl) h) ]
+            ]
+
+    alive_off : (m : ℕ) → nodes m ≡ None → m ≢ p
+    alive_off m e z = let f : nodes p ≡ None = rw (← z) e in let g : nodes p ≡ Some was = was_is in cc
+
+    module _ (above : Option (ℕ × ℕ)) (leads : LeadsTo nodes root above (Inner p)) (cuts : CutsAfter P nodes cut s.front_of (edge_front s.front_of above) c1) (turns : TurnsTo cut mid root root' above c1) where
+      abbrev g0 : Bytes
+      g0 = edge_front s.front_of above
+
+      above_live : (above' : Option (ℕ × ℕ)) → LeadsTo nodes root above' (Inner p) → (e : ℕ × ℕ) → above' ≡ Some e → IsSome (nodes e.0)
+      above_live None l e is = absurd cc
+      above_live (Some d) l e is = let z : d ≡ e = cc in subst (λ (w : ℕ × ℕ). IsSome (nodes w.0)) z (is_some (nodes d.0) l.0 l.1)
+
+      -- the change of a node
+      turned : (m : ℕ) (x : Node) → m ≢ p → nodes m ≡ Some x → (x' : Node) × (new m ≡ Some x') × Turns x x' (s.front_of m) g0 (Inner p) c1
+      turned m x off is =
+          let y = cut_node P nodes cut s.front_of g0 c1 cuts m x is in
+          let z = turned_node s.front_of cut mid root root' (Inner p) c1 (λ m. IsSome (nodes m)) s.apart above (cut_leads P nodes cut s.front_of g0 c1 cuts root above (Inner p) leads) (above_live above leads) turns m y.0 (is_some (nodes m) x is) y.1 in
+          (z.0, frees.others m off ∙ z.1, turns_after x y.0 z.0 (s.front_of m) g0 (Inner p) c1 y.2.depth y.2.edges z.2)
+
+      none_more : (above' : Option (ℕ × ℕ)) → LeadsTo nodes root above' (Inner p) → TurnsTo cut mid root root' above' c1 → (m : ℕ) → nodes m ≡ None → new m ≡ None
+      none_more None leads turns m e = frees.others m (alive_off m e) ∙ turns.0 m ∙ cut_was P nodes cut s.front_of g0 c1 cuts m e
+      none_more (Some (q, a)) leads turns m e =
+          let far : m ≢ q = (λ z. let f : nodes q ≡ None = ap nodes (sym z) ∙ e in let g : nodes q ≡ Some leads.0 = leads.1 in absurd cc) in
+          frees.others m (alive_off m e) ∙ turns.0.others m far ∙ cut_was P nodes cut s.front_of g0 c1 cuts m e
+
+      edge_above : (above' : Option (ℕ × ℕ)) → LeadsTo nodes root above' (Inner p) → TurnsTo cut mid root root' above' c1
+          → ((edge_front s.front_of above' ≡ []) × (root ≡ Some (Inner p)) × (root' ≡ Some c1)) ⊎ ((m : ℕ) × (b : ℕ) × IsSome (nodes m) × (edge_front s.front_of above' ≡ s.front_of m ++ b ∷ []) × (root' ≡ root))
+      edge_above None leads turns = inl (refl, leads, turns.1)
+      edge_above (Some (q, a)) leads turns = inr (q, a, is_some (nodes q) leads.0 leads.1, refl, turns.1)
+
+      merges : Merges nodes new s.front_of root root' g0 c1 was p b b1
+      merges = record {
+        gone = frees.gone;
+        high = high;
+        two = two;
+        only = only_two was.edges just (is_some (child_at was.edges b) (Leaf i) low) (is_some (child_at was.edges b1) c1 high);
+        above = edge_above above leads turns;
+        others = turned;
+        no_more = none_more above leads turns;
+      }
+
+      not_freed : (m : ℕ) (x : Node) → new m ≡ Some x → m ≢ p
+      not_freed m x is e = let f : new p ≡ Some x = ap new (sym e) ∙ is in let g : new p ≡ None = frees.gone in cc
+
+      prefix_led : (m : ℕ) (x x' : Node) → cut m ≡ Some x → new m ≡ Some x' → x'.prefix ≡ x.prefix
+      prefix_led m x x' was is = turned_prefix cut mid root root' above c1 turns m x x' was (sym (frees.others m (not_freed m x' is)) ∙ is)
+
+      recut : Recut P nodes new s.front_of g0 c1
+      recut = record {
+        others = λ m x x' was is off. (let y = cut_node P nodes cut s.front_of g0 c1 cuts m x was in prefix_led m y.0 x' y.1 is ∙ y.2.other off);
+        own = λ m x x' was is same. (let y = cut_node P nodes cut s.front_of g0 c1 cuts m x was in prefix_led m y.0 x' y.1 is ∙ y.2.own same);
+      }
+
+      -- the tree if the edge above a node with two edges leads to its other child, not to the node
+      pub edge_merged : Shape P keys' new root'
+      edge_merged =
+          shape_merged new root' g0 c1 b1 merges (covers_above keys nodes root s above (Inner p) leads) recut
+          (λ a j l e. one_above keys nodes root s j a (Some (p, b1)) l (was, was_is, high ∙ ap (λ (c : Child). Some c) e))

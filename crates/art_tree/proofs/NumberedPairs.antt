@@ -1,0 +1,16 @@
+pub mod Added
+pub mod Answers
+pub mod Bounds
+pub mod Branches
+pub mod Changes
+pub mod Copies
+pub mod Filtering
+pub mod KeyChanges
+pub mod Keys
+pub mod LookUps
+pub mod Neighbours
+pub mod Numbers
+pub mod Outside
+pub mod Passing
+pub mod Placed
+pub mod Turns

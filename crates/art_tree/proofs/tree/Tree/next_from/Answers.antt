@@ -1,9 +1,0 @@
-use Rattle.std.proofs.Common.{sym, lit<}
-use Rattle.art_tree.proofs.UnderIds.{after_in, after_lies}
-use Rattle.art_tree.proofs.tree.Tree.next_from.Goals as goal
-
-pub id_of_any-requires : goal.id_of_any-requires
-id_of_any-requires g c = (lit< tt, rw c.next_from.ensures (after_in c.self.inside.cells.pairs c.cell_near-cell.result))
-
-pub returns : goal.returns
-returns g c = rw (← c.self.view_is, c.id_of_any.ensures, c.next_from.ensures) (sym (after_lies c.self.inside.cells.ids c.self.inside.cells.pairs c.law.ensures.named c.args.id c.cell_near-cell.result c.cell_near-cell.ensures))

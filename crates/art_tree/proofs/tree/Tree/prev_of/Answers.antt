@@ -1,9 +1,0 @@
-use Rattle.std.proofs.Common.{sym, lit<}
-use Rattle.art_tree.proofs.UnderIds.{before_in, before_lies}
-use Rattle.art_tree.proofs.tree.Tree.prev_of.Goals as goal
-
-pub id_of_any-requires : goal.id_of_any-requires
-id_of_any-requires g c = (lit< tt, rw c.prev_of.ensures (before_in c.self.inside.cells.pairs c.cell_of-cell.result))
-
-pub returns : goal.returns
-returns g c = rw (← c.self.view_is, c.id_of_any.ensures, c.prev_of.ensures) (sym (before_lies c.self.inside.cells.ids c.self.inside.cells.pairs c.law.ensures.named c.args.id c.cell_of-cell.result c.cell_of-cell.ensures))

@@ -1,0 +1,16 @@
+use Rattle.std.proofs.Common.{ℕ, ◌≤◌, Option, Some}
+use Rattle.art_tree.specs.Begins.{Bytes}
+use Rattle.art_kinds.specs.Nodes.{at}
+use Rattle.art_tree.specs.Invariant.Shape.{Shape}
+use Rattle.art_tree.proofs.Ways.Depths.{rank}
+use Rattle.art_tree.proofs.Ways.ToFront.{Heads}
+use Rattle.art_tree.proofs.tree.descent.children_of.Given as goal
+
+abbrev pub invariant-down : goal.invariant-down
+invariant-down g l = record {
+  way : (keys : ℕ → Option Bytes) (s : Shape g.row.P keys (at l.nodes) (Some l.fn.root)) → Heads keys (at l.nodes) l.front s.front_of l.at l.initial.visits.count l.visits.count;
+  rising : l.initial.visits.count ≤ l.visits.count;
+}
+
+abbrev pub decreases-down : goal.decreases-down
+decreases-down g l = rank l.nodes l.at

@@ -1,0 +1,17 @@
+use Rattle.std.proofs.Common.{ℕ, ◌≤◌, [], Option, Some}
+use Rattle.art_tree.specs.Begins.{Bytes}
+use Rattle.art_kinds.specs.Nodes.{at}
+use Rattle.art_tree.specs.Invariant.Shape.{Shape}
+use Rattle.art_tree.proofs.Ways.Depths.{rank}
+use Rattle.art_tree.proofs.Ways.Nearest.{HoldsFurthest}
+use Rattle.art_tree.proofs.Ways.WaysDown.{WayDown}
+use Rattle.art_tree.proofs.tree.descent.find_nearest.Given as goal
+
+abbrev pub invariant-down : goal.invariant-down
+invariant-down g l = record {
+  way : (keys : ℕ → Option Bytes) (s : Shape g.row.P keys (at l.nodes) (Some l.fn.root)) → WayDown keys (at l.nodes) s.front_of (HoldsFurthest keys l.query) [] l.at l.initial.visits.count l.visits.count;
+  rising : l.initial.visits.count ≤ l.visits.count;
+}
+
+abbrev pub decreases-down : goal.decreases-down
+decreases-down g l = rank l.nodes l.at

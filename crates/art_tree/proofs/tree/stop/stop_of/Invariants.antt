@@ -1,0 +1,18 @@
+use Rattle.std.specs.Prelude.{Some}
+use Rattle.art_tree.specs.Calls.Removing.{StartsBelow}
+use Rattle.art_tree.specs.Calls.Stops.{OnWay}
+use Rattle.art_tree.specs.Invariant.EdgesAbove.{LeadsTo}
+use Rattle.art_tree.specs.Leaves.{keys_in}
+use Rattle.art_kinds.specs.Nodes.{at}
+use Rattle.art_tree.proofs.Ways.Depths.{rank}
+use Rattle.art_tree.proofs.tree.stop.stop_of.Given as goal
+
+abbrev pub invariant-down : goal.invariant-down
+invariant-down g l = record {
+  way : OnWay g.row.P (keys_in g.K.AsBytes.bytes l.leaves.pairs) (at l.nodes) l.child l.start l.query;
+  leads : LeadsTo (at l.nodes) (Some l.fn.root) l.above l.child;
+  starts : StartsBelow (at l.nodes) l.above l.start;
+}
+
+abbrev pub decreases-down : goal.decreases-down
+decreases-down g l = rank l.nodes l.child

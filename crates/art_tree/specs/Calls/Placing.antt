@@ -1,0 +1,109 @@
+-- How a leaf is added to the tree.
+use Rattle.std.specs.Prelude.{◌≡◌, ◌≢◌, ◌<◌, ◌≤◌, ◌⊎◌, ℕ, List, take, slice_range, length, Option, Some, None, IfSome}
+use Rattle.blart_keys.specs.Content.{IsPut}
+use Rattle.art_tree.specs.Begins.{Bytes}
+use Rattle.art_tree.specs.Content.{Content}
+use Rattle.art_tree.specs.Places.{LeavesNearest}
+use Rattle.art_tree.specs.Leaves.{Leaves, Numbered, leaf_in, OthersStand, bytes, room as leaves_room}
+use Rattle.art_kinds.specs.Edges.{child_at}
+use Rattle.art_kinds.specs.Nodes.{Node, Nodes, Makes, room}
+use Rattle.art_tree.specs.Invariant.Shape.{Shape}
+use Rattle.art_tree.specs.Calls.Spots.{SpotFits}
+use Rattle.art_kinds.specs.declared.records.ids.Child.{Child}
+use Rattle.art_kinds.specs.declared.records.ids.Child.TheVariants.{Leaf, Inner}
+use Rattle.art_kinds.specs.declared.records.ids.Edge.{Edge}
+use Rattle.art_tree.specs.declared.tree.descent.Spot.{Spot}
+use Rattle.art_tree.specs.declared.tree.point.Place.{Place}
+use Rattle.art_tree.specs.declared.tree.point.Point.{Point}
+use Rattle.art_tree.specs.declared.tree.point.Point.TheVariants.{Empty, Exact, Related, Free}
+
+-- the leaf i is added, with the key k
+pub record Gains (old new : ℕ → Option Bytes) (i : ℕ) (k : Bytes) : Type 0 where
+  pub fresh : old i ≡ None
+  pub has : new i ≡ Some k
+  pub others : (j : ℕ) → j ≢ i → new j ≡ old j
+
+-- in some tree with this root, the key leaves the nearest stored key at the spot
+pub record IsSpotFor (P : ℕ) (nodes : ℕ → Option Node) (root : Child) (spot : Spot) (key nearest : Bytes) (depth : ℕ) : Type 0 where
+  pub keys : ℕ → Option Bytes
+  pub shape : Shape P keys nodes (Some root)
+  pub leaf : ℕ
+  pub is : keys leaf ≡ Some nearest
+  pub leaves : LeavesNearest keys leaf depth key
+  pub fits : SpotFits nodes (Some root) shape.front_of nearest depth spot
+
+-- in each tree of these keys, a key that leaves the nearest one at this depth does so at the spot
+abbrev pub IsShownIn : ℕ → (ℕ → Option Bytes) → (ℕ → Option Node) → Child → ℕ → ℕ → Spot → Type 0
+IsShownIn P keys nodes root nearest depth spot =
+    (s : Shape P keys nodes (Some root)) (key : Bytes) → keys nearest ≡ Some key → depth ≤ length key
+    → SpotFits nodes (Some root) s.front_of key depth spot
+
+-- the same holds in each tree with this root
+abbrev pub IsShown : ℕ → (ℕ → Option Node) → Child → Place → Spot → Type 0
+IsShown P nodes root place spot = (keys : ℕ → Option Bytes) → IsShownIn P keys nodes root place.nearest place.depth spot
+
+-- if the point is free, this is true of its place
+abbrev pub IfFree : Point → (Place → Type 0) → Type 0
+IfFree Empty T = Unit {0}
+IfFree (Exact id) T = Unit {0}
+IfFree (Related first last) T = Unit {0}
+IfFree (Free place) T = T place
+
+-- in some tree, this is the key of the place's nearest leaf, and the spot is right if it is known
+pub record HasNearest (P : ℕ) (nodes : ℕ → Option Node) (root : Child) (place : Place) (shown : Option Spot) (nearest : Bytes) : Type 0 where
+  pub keys : ℕ → Option Bytes
+  pub shape : Shape P keys nodes (Some root)
+  pub is : keys place.nearest ≡ Some nearest
+  pub within : place.depth ≤ length nearest
+  pub known : IfSome shown (IsShownIn P keys nodes root place.nearest place.depth)
+
+-- the node has this depth, and its edge by this byte leads to the leaf
+pub record IsOverLeaf (nodes : ℕ → Option Node) (n depth byte leaf : ℕ) : Type 0 where
+  pub node : Node
+  pub is : nodes n ≡ Some node
+  pub deep : node.depth ≡ depth
+  pub there : child_at node.edges byte ≡ Some (Leaf leaf)
+
+-- each tree in which the key leaves the nearest key at the spot now has the leaf i with the key too
+abbrev pub TreeGains : ℕ → (ℕ → Option Node) → (ℕ → Option Node) → Child → Child → Spot → Bytes → Bytes → ℕ → ℕ → Type 0
+TreeGains P old new root root' spot key nearest depth i =
+    (keys keys' : ℕ → Option Bytes) (s : Shape P keys old (Some root)) (leaf : ℕ) → keys leaf ≡ Some nearest → LeavesNearest keys leaf depth key → SpotFits old (Some root) s.front_of nearest depth spot
+    → Gains keys keys' i key → Shape P keys' new (Some root')
+
+-- a node is made with these two edges, in the order of their bytes
+pub record Forks (old new : ℕ → Option Node) (n depth : ℕ) (prefix : List ℕ) (one other : Edge) : Type 0 where
+  pub low : Edge
+  pub high : Edge
+  pub made : Makes old new n depth prefix low high
+  pub sorted : low.byte < high.byte
+  pub both : ((low ≡ one) × (high ≡ other)) ⊎ ((low ≡ other) × (high ≡ one))
+
+-- the child is a leaf, or a node with a depth of at least `least` and at most `most`
+abbrev pub DepthWithin : (ℕ → Option Node) → Child → ℕ → ℕ → Type 0
+DepthWithin nodes (Leaf i) least most = Unit {0}
+DepthWithin nodes (Inner n) least most = (x : Node) × (nodes n ≡ Some x) × (least ≤ x.depth) × (x.depth ≤ most)
+
+-- the child is a leaf, or a node that keeps P bytes of the key from `from` to the node's depth
+abbrev pub KeepsFrom : ℕ → (ℕ → Option Node) → Child → Bytes → ℕ → Type 0
+KeepsFrom P nodes (Leaf i) key from = Unit {0}
+KeepsFrom P nodes (Inner n) key from = (x : Node) → nodes n ≡ Some x → x.prefix ≡ take P (slice_range key from x.depth)
+
+-- the content of a tree with these leaves and nodes
+abbrev pub content_of : {K V : Type 0} → Leaves K V → Nodes → Content K V
+content_of leaves nodes = record { pairs = leaves.pairs; spares = record { leaves = leaves_room leaves; nodes = room nodes } }
+
+-- the tree has all keys but that of the leaf i, which leaves the nearest key at this depth
+pub record IsToJoin (P : ℕ) (keys : ℕ → Option Bytes) (nodes : ℕ → Option Node) (root : Child) (nearest depth : ℕ) (shown : Option Spot) (i : ℕ) : Type 0 where
+  pub rest : ℕ → Option Bytes
+  pub shape : Shape P rest nodes (Some root)
+  pub key : Bytes
+  pub leaves : LeavesNearest rest nearest depth key
+  pub gains : Gains rest keys i key
+  pub known : IfSome shown (IsShownIn P rest nodes root nearest depth)
+
+-- the pair is put under a fresh id, and each other id has the pair that it had
+pub record PutsPair {K V : Type 0} (key_bytes : K → List ℕ) (old new : List (Numbered K V)) (id : ℕ) (x : K × V) : Type 0 where
+  pub put : IsPut (bytes key_bytes) old (id, x) new
+  pub fresh : leaf_in old id ≡ None
+  pub now : leaf_in new id ≡ Some x
+  pub others : OthersStand old new id

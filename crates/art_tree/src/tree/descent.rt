@@ -1,0 +1,211 @@
+//! Descents in the tree.
+ghost use Rattle.std.specs.Prelude.{◌≡◌, ℕ, ◌+◌, ◌<◌, ◌≤◌, length, Option, Some};
+ghost use Rattle.art_tree.specs.Begins.{Bytes};
+ghost use Rattle.art_kinds.specs.Nodes.{at};
+ghost use Rattle.art_tree.specs.Invariant.Shape.{Shape, Covers};
+ghost use Rattle.art_tree.specs.Calls.Descents.{IsSubtree, IsRoot, HasEdges, GoesToward, IsWayOf, Finds, IsEndUnder, IsNearestLeaf};
+ghost use Rattle.art_tree.specs.Calls.Spots.{SpotFits};
+ghost use Rattle.art_kinds.specs.declared.records.ids.Child.{Child as Way};
+
+use art_kinds::{Child, NodeId, Nodes};
+use art_slots::{LeafId, Visits};
+
+/// The edge above a child: the number of a node, and a byte. It is `None` for the root.
+pub(crate) type EdgeAbove = Option<(NodeId, u8)>;
+
+/// A place in the tree where some bytes may leave the keys.
+#[derive(Clone, Copy)]
+pub(crate) enum Spot {
+    /// A node, and the edge above it.
+    Node(EdgeAbove, NodeId),
+    /// An edge, and its child.
+    Edge(EdgeAbove, Child),
+}
+
+impl Spot {
+    ghost use Rattle.std.specs.Prelude.{◌≡◌};
+    ghost use Rattle.art_tree.specs.Calls.Spots.{child_under, above_of};
+
+    /// Returns the node of the spot, or the child of its edge.
+    pub(crate) fn child(&self) -> Child
+        ensures { result ≡ child_under self.now }
+    {
+        match self {
+            Spot::Node(_, id) => Child::Inner(*id),
+            Spot::Edge(_, child) => *child,
+        }
+    }
+
+    /// Returns the edge above the spot.
+    pub(crate) fn above(&self) -> EdgeAbove
+        ensures { result ≡ above_of self.now }
+    {
+        match self {
+            Spot::Node(above, _) => *above,
+            Spot::Edge(above, _) => *above,
+        }
+    }
+}
+
+/// A leaf, the edge to it, and the edge above the node of that edge.
+#[derive(Clone, Copy)]
+pub(crate) struct LeafSpot {
+    pub(crate) id: LeafId,
+    pub(crate) edge: EdgeAbove,
+    pub(crate) above: EdgeAbove,
+}
+
+/// The part of a tree that has the pairs with some prefix: the edge above it, the child at its top,
+/// and its first and last leaf.
+#[derive(Clone, Copy)]
+pub(crate) struct Branch {
+    pub(crate) above: EdgeAbove,
+    pub(crate) child: Child,
+    pub(crate) first: LeafId,
+    pub(crate) last: LeafId,
+}
+
+/// Returns a leaf whose key has the longest common prefix with the query.
+pub(crate) fn find_nearest<const P: usize>(
+    nodes: &Nodes<P>,
+    root: &Child,
+    query: &[u8],
+    visits: &mut Visits,
+) -> LeafId
+    requires { IsRoot P (at nodes.now) root.now }
+    ensures nearest { (keys : ℕ → Option Bytes) → Shape P keys (at nodes.now) (Some root.now)
+        → IsNearestLeaf keys query.now result }
+    ensures counted { (keys : ℕ → Option Bytes) → Shape P keys (at nodes.now) (Some root.now)
+        → (key : Bytes) → keys result ≡ Some key
+        → visits.new.count ≤ visits.old.count + length key }
+    ensures grows { visits.old.count ≤ visits.new.count }
+{
+    let mut at = *root;
+    'down: loop {
+        match at {
+            Child::Leaf(id) => return id,
+            Child::Inner(id) => at = toward(nodes, id, query, visits),
+        }
+    }
+}
+
+/// Returns the child of the node by the query's next byte. If the query has ended, or no edge has
+/// that byte, returns the child of the first edge.
+fn toward<const P: usize>(nodes: &Nodes<P>, id: NodeId, query: &[u8], visits: &mut Visits) -> Child
+    requires { HasEdges (at nodes.now) id }
+    ensures child { GoesToward (at nodes.now) id query.now result }
+    ensures counted { visits.new.count ≡ visits.old.count + 1 }
+{
+    let node = nodes.read(id, visits);
+    let depth = node.depth();
+    if depth < query.len() {
+        if let Some(child) = node.find(query[depth]) {
+            return child;
+        }
+    }
+    node.end_edge(true).to
+}
+
+/// Returns the leaf with the least key below a child if `is_first` is set, or else the one with the
+/// greatest key.
+pub(crate) fn end_under<const P: usize>(
+    nodes: &Nodes<P>,
+    child: &Child,
+    is_first: bool,
+    visits: &mut Visits,
+) -> LeafId
+    requires { IsSubtree P (at nodes.now) child.now }
+    ensures ends { (keys : ℕ → Option Bytes) (root : Option Way)
+        (s : Shape P keys (at nodes.now) root)
+        (g : Bytes)
+        → Covers keys (at nodes.now) s.front_of g child.now → IsEndUnder keys is_first g result }
+    ensures counted { (keys : ℕ → Option Bytes) (root : Option Way)
+        (s : Shape P keys (at nodes.now) root) (g key : Bytes)
+        → Covers keys (at nodes.now) s.front_of g child.now → keys result ≡ Some key
+        → visits.new.count + length g ≤ visits.old.count + length key }
+    ensures grows { visits.old.count ≤ visits.new.count }
+{
+    let mut at = *child;
+    'down: loop {
+        match at {
+            Child::Leaf(id) => return id,
+            Child::Inner(id) => at = nodes.read(id, visits).end_edge(is_first).to,
+        }
+    }
+}
+
+/// Descends by a stored key, and returns the spot where another key would leave it at this depth.
+pub(crate) fn locate<const P: usize>(
+    nodes: &Nodes<P>,
+    root: &Child,
+    nearest: &[u8],
+    depth: usize,
+    visits: &mut Visits,
+) -> Spot
+    requires { IsWayOf P (at nodes.now) root.now nearest.now depth }
+    ensures spot { (keys : ℕ → Option Bytes) (s : Shape P keys (at nodes.now) (Some root.now))
+        (i : ℕ)
+        → keys i ≡ Some nearest.now
+        → SpotFits (at nodes.now) (Some root.now) s.front_of nearest.now depth result }
+    ensures counted { visits.new.count ≤ visits.old.count + depth + 1 }
+    ensures grows { visits.old.count ≤ visits.new.count }
+{
+    let mut at = *root;
+    let mut above = None;
+    'down: loop {
+        let id = match at {
+            Child::Leaf(_) => return Spot::Edge(above, at),
+            Child::Inner(id) => id,
+        };
+        let node = nodes.read(id, visits);
+        let length = node.depth();
+        if length > depth {
+            return Spot::Edge(above, at);
+        }
+        if length == depth {
+            return Spot::Node(above, id);
+        }
+        let byte = nearest[length];
+        match node.find(byte) {
+            Some(child) => at = child,
+            None => unreachable!(),
+        }
+        above = Some((id, byte));
+    }
+}
+
+/// Descends by the bytes of `front` to a node whose depth is their number. Returns the number of
+/// its edges and the first leaf below it, or `None` if there is no such node. If some node has the
+/// prefix `front`, it is this one.
+pub(crate) fn children_of<const P: usize>(
+    nodes: &Nodes<P>,
+    root: &Child,
+    front: &[u8],
+    visits: &mut Visits,
+) -> Option<(usize, LeafId)>
+    requires { IsRoot P (at nodes.now) root.now }
+    ensures finds { (keys : ℕ → Option Bytes) (s : Shape P keys (at nodes.now) (Some root.now))
+        → Finds keys (at nodes.now) s.front_of front.now visits.old.count visits.new.count result }
+    ensures grows { visits.old.count ≤ visits.new.count }
+{
+    let mut at = *root;
+    'down: loop {
+        let id = match at {
+            Child::Leaf(_) => return None,
+            Child::Inner(id) => id,
+        };
+        let node = nodes.read(id, visits);
+        let depth = node.depth();
+        if depth == front.len() {
+            let count = node.count();
+            return Some((
+                count,
+                end_under(nodes, &node.end_edge(true).to, true, visits),
+            ));
+        }
+        if depth > front.len() {
+            return None;
+        }
+        at = node.find(front[depth])?;
+    }
+}

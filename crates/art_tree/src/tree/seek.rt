@@ -1,0 +1,192 @@
+//! The first and the last pair within a bound, and of those with a prefix.
+ghost use Rattle.std.specs.Prelude.{◌≡◌, ◌+◌, ◌*◌, ◌≤◌, [], length, option_map, Some, IfSome};
+ghost use Rattle.blart_keys.specs.Bounds.{bound_bytes};
+ghost use Rattle.blart_keys.specs.Content.{under};
+ghost use Rattle.art_tree.specs.Leaves.{Has, keys_in, bytes};
+ghost use Rattle.art_tree.specs.Longest.{longest};
+ghost use Rattle.art_tree.specs.Seeks.{number_within, ends, bound_len};
+ghost use Rattle.art_tree.specs.Calls.Seeking.{IsPlaceOf, beside};
+ghost use Rattle.art_tree.specs.Calls.Pruning.{IsBranch};
+ghost use Rattle.art_kinds.specs.Nodes.{at};
+ghost use Rattle.art_tree.specs.Invariant.Shape.{Shape};
+ghost use Rattle.art_tree.specs.Invariant.Sound.{IsSound};
+
+use crate::tree::Tree;
+use crate::tree::descent::{Branch, end_under, locate};
+use crate::tree::parting::{Parting, leaf_before, leaf_beside, nearest_leaf, parting_of};
+use art_kinds::{Child, Nodes};
+use art_rows::Leaves;
+use art_slots::{LeafId, Visits};
+use blart_keys::AsBytes;
+use std::ops::Bound;
+
+impl<K: AsBytes, V, const PREFIX_LEN: usize> Tree<K, V, PREFIX_LEN> {
+    /// Returns the first leaf within a start bound, or the last within an end bound, or `None` if
+    /// there is no such leaf.
+    ///
+    /// Cost: at most (n + 2) * (L + 1) visits, if the bound has n bytes (0 if it is unbounded) and
+    /// the longest key has L bytes, and none on an empty tree.
+    pub fn seek(&self, bound: Bound<&[u8]>, is_start: bool, visits: &mut Visits) -> Option<LeafId>
+        ensures found { result
+            ≡ number_within (bytes K.bytes) self.now.pairs
+            (bound_bytes (λ b. b) bound.entry) is_start }
+        ensures counted { visits.new.count
+            ≤ visits.old.count + (bound_len (bound_bytes (λ b. b) bound.entry) + 2)
+            * (longest (bytes K.bytes) self.now.pairs + 1) }
+        ensures grows { visits.old.count ≤ visits.new.count }
+        ensures empty { self.now.pairs ≡ [] → visits.new.count ≡ visits.old.count }
+    {
+        self.law();
+        match bound {
+            Bound::Unbounded => { if is_start { self.first() } else { self.last() } }
+            Bound::Included(query) => match self.find_place(query, visits) {
+                Ok(id) => Some(id),
+                Err(prev) => self.side_of(prev, is_start),
+            },
+            Bound::Excluded(query) => match self.find_place(query, visits) {
+                Err(prev) => self.side_of(prev, is_start),
+                Ok(id) => {
+                    if is_start {
+                        self.next_of(id)
+                    } else {
+                        self.prev_of(id)
+                    }
+                }
+            },
+        }
+    }
+
+    /// Returns the first and the last leaf whose bytes begin with these, or `None` if there are
+    /// none.
+    ///
+    /// Cost: at most (n + 3) * (L + 1) - 2 visits, if there are n bytes and the longest key has L
+    /// bytes, and none on an empty tree.
+    pub fn span(&self, front: &[u8], visits: &mut Visits) -> Option<(LeafId, LeafId)>
+        ensures found { result ≡ ends (under (bytes K.bytes) self.now.pairs front.now) }
+        ensures counted { visits.new.count + 2
+            ≤ visits.old.count + (length front.now + 3)
+            * (longest (bytes K.bytes) self.now.pairs + 1) }
+        ensures grows { visits.old.count ≤ visits.new.count }
+        ensures empty { self.now.pairs ≡ [] → visits.new.count ≡ visits.old.count }
+    {
+        if front.is_empty() {
+            return self.ends();
+        }
+        match self.root {
+            None => None,
+            Some(root) => {
+                let branch = branch_below(&self.leaves, &self.nodes, &root, front, visits)?;
+                Some((branch.first, branch.last))
+            }
+        }
+    }
+
+    /// Returns the first and the last leaf, if there are leaves.
+    fn ends(&self) -> Option<(LeafId, LeafId)>
+        ensures { result ≡ ends self.now.pairs }
+    {
+        let Some(first) = self.first() else {
+            return None;
+        };
+        let Some(last) = self.last() else {
+            return None;
+        };
+        Some((first, last))
+    }
+
+    /// Returns the leaf after a place if `is_after` is set, or else `prev`, the leaf before it.
+    fn side_of(&self, prev: Option<LeafId>, is_after: bool) -> Option<LeafId>
+        requires { IfSome prev (Has self.now.pairs) }
+        ensures { result ≡ beside prev self.now.pairs is_after }
+    {
+        if !is_after {
+            return prev;
+        }
+        match prev {
+            None => self.first(),
+            Some(id) => self.next_of(id),
+        }
+    }
+
+    /// Returns the leaf with these bytes, or else the leaf before the place where they would go.
+    fn find_place(&self, query: &[u8], visits: &mut Visits) -> Result<LeafId, Option<LeafId>>
+        ensures stands { IsPlaceOf (keys_in K.bytes self.now.pairs) query.now result }
+        ensures counted { visits.new.count
+            ≤ visits.old.count + (length query.now + 2)
+            * (longest (bytes K.bytes) self.now.pairs + 1) }
+        ensures grows { visits.old.count ≤ visits.new.count }
+        ensures empty { self.now.pairs ≡ [] → visits.new.count ≡ visits.old.count }
+    {
+        match self.root {
+            None => Err(None),
+            Some(root) => place_below(&self.leaves, &self.nodes, &root, query, visits),
+        }
+    }
+}
+
+/// Returns the leaf with these bytes, or else the leaf before the place where they would go, in a
+/// tree with some pairs.
+fn place_below<K: AsBytes, V, const P: usize>(
+    leaves: &Leaves<K, V>,
+    nodes: &Nodes<P>,
+    root: &Child,
+    query: &[u8],
+    visits: &mut Visits,
+) -> Result<LeafId, Option<LeafId>>
+    requires { IsSound K.bytes P leaves.now nodes.now (Some root.now) }
+    ensures stands { IsPlaceOf (keys_in K.bytes leaves.now.pairs) query.now result }
+    ensures counted { visits.new.count
+        ≤ visits.old.count + (length query.now + 2)
+        * (longest (bytes K.bytes) leaves.now.pairs + 1) }
+    ensures grows { visits.old.count ≤ visits.new.count }
+{
+    leaves.law();
+    match parting_of(leaves, nodes, root, query, visits) {
+        Parting::Same(id) => Ok(id),
+        Parting::Shorter(id) => Err(Some(id)),
+        Parting::Longer(child) => {
+            let first = end_under(nodes, &child, true, visits);
+            Err(leaves.prev_of(first))
+        }
+        Parting::Apart(mismatch) => {
+            let beside = leaf_beside(nodes, &mismatch, query, visits);
+            Err(leaf_before(leaves, &beside).0)
+        }
+    }
+}
+
+/// Returns the branch of the keys with a prefix, in a tree with some pairs, or `None` if no key has
+/// the prefix.
+pub(crate) fn branch_below<K: AsBytes, V, const P: usize>(
+    leaves: &Leaves<K, V>,
+    nodes: &Nodes<P>,
+    root: &Child,
+    front: &[u8],
+    visits: &mut Visits,
+) -> Option<Branch>
+    requires { IsSound K.bytes P leaves.now nodes.now (Some root.now) }
+    ensures found { option_map (λ b. (b.first, b.last)) result
+        ≡ ends (under (bytes K.bytes) leaves.now.pairs front.now) }
+    ensures branch { (s : Shape P (keys_in K.bytes leaves.now.pairs) (at nodes.now) (Some root.now))
+        → IfSome result (IsBranch (keys_in K.bytes leaves.now.pairs) (at nodes.now)
+        (Some root.now) s.front_of front.now) }
+    ensures counted { visits.new.count
+        ≤ visits.old.count + 3 * longest (bytes K.bytes) leaves.now.pairs + 2 }
+    ensures grows { visits.old.count ≤ visits.new.count }
+{
+    leaves.law();
+    let (_, key, depth) = nearest_leaf(leaves, nodes, root, front, visits);
+    if depth < front.len() {
+        return None;
+    }
+    let spot = locate(nodes, root, key, depth, visits);
+    let child = spot.child();
+    let first = end_under(nodes, &child, true, visits);
+    let last = end_under(nodes, &child, false, visits);
+    Some(Branch {
+        above: spot.above(),
+        child,
+        first,
+        last,
+    })
+}

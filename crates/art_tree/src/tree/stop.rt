@@ -1,0 +1,194 @@
+//! The descent by the bytes of a query. The prefixes that the nodes keep are compared on the way. A
+//! leaf is read at the end, or if a prefix is longer than the bytes that its node keeps.
+ghost use Rattle.std.specs.Prelude.{◌≡◌, Some};
+ghost use Rattle.art_tree.specs.Calls.Stops.{OnWay, IsShared, IsStop, IsStep, StopsAt, IsStopBelow};
+ghost use Rattle.art_tree.specs.Leaves.{keys_in};
+ghost use Rattle.art_kinds.specs.Nodes.{at};
+ghost use Rattle.art_tree.specs.Invariant.Sound.{IsSound};
+ghost use Rattle.art_kinds.specs.declared.records.ids.Child.TheVariants.{Leaf, Inner};
+
+use crate::lists::{common_len, common_len_after};
+use crate::tree::descent::{EdgeAbove, end_under};
+use art_kinds::{Child, NodeId, NodeRef, Nodes};
+use art_rows::Leaves;
+use art_slots::{LeafId, Visits};
+use blart_keys::AsBytes;
+
+/// Where a descent by the bytes of a query ends.
+#[derive(Clone, Copy)]
+pub(crate) enum Stop {
+    /// The key of this leaf has the query's bytes.
+    Same(LeafId),
+    /// The key of this leaf is a proper prefix of the query.
+    Shorter(LeafId),
+    /// The query is a proper prefix of the keys below this child, and of no others.
+    Longer(Child),
+    /// The query leaves the keys at this node, after this number of bytes.
+    AtNode(NodeId, usize),
+    /// The query leaves the keys below this child after this number of bytes. The last field is the
+    /// next byte of the keys.
+    AtEdge(Child, usize, u8),
+}
+
+/// What follows a node of a descent.
+#[derive(Clone, Copy)]
+enum Step {
+    /// A child of the node, the number of bytes that lead to it, and the byte of its edge.
+    Down(Child, usize, u8),
+    /// The end.
+    Stops(Stop),
+}
+
+/// The number of bytes that a prefix and a query have in common, and the next byte of the prefix.
+#[derive(Clone, Copy)]
+struct Shared {
+    len: usize,
+    byte: u8,
+}
+
+/// Returns where the descent by the bytes of a query ends, in a tree with some pairs, and the edge
+/// above.
+pub(crate) fn stop_of<K: AsBytes, V, const P: usize>(
+    leaves: &Leaves<K, V>,
+    nodes: &Nodes<P>,
+    root: &Child,
+    query: &[u8],
+) -> (Stop, EdgeAbove)
+    requires { IsSound K.bytes P leaves.now nodes.now (Some root.now) }
+    ensures stop { IsStop P (keys_in K.bytes leaves.now.pairs) (at nodes.now) result.0 query.now }
+    ensures above { IsStopBelow (at nodes.now) (Some root.now) result.1 result.0 }
+{
+    let mut child = *root;
+    let mut above = None;
+    let mut start = 0;
+    'down: loop {
+        let id = match child {
+            Child::Leaf(id) => return (stop_at_leaf(leaves, nodes, start, id, query), above),
+            Child::Inner(id) => id,
+        };
+        match step_at(leaves, nodes, start, id, query) {
+            Step::Stops(stop) => return (stop, above),
+            Step::Down(to, next, byte) => {
+                above = Some((id, byte));
+                child = to;
+                start = next;
+            }
+        }
+    }
+}
+
+/// Returns where a descent that has come to a leaf ends.
+fn stop_at_leaf<K: AsBytes, V, const P: usize>(
+    leaves: &Leaves<K, V>,
+    nodes: &Nodes<P>,
+    start: usize,
+    id: LeafId,
+    query: &[u8],
+) -> Stop
+    requires { OnWay P (keys_in K.bytes leaves.now.pairs) (at nodes.now) (Leaf id) start query.now }
+    ensures { IsStop P (keys_in K.bytes leaves.now.pairs) (at nodes.now) result query.now
+        × StopsAt (at nodes.now) (Leaf id) start result }
+{
+    let _nodes = nodes;
+    let (key, _) = leaves.read(id, &mut Visits::new());
+    let key = key.as_bytes();
+    let depth = start + common_len_after(key, query, start);
+    if depth == key.len() {
+        return if depth == query.len() {
+            Stop::Same(id)
+        } else {
+            Stop::Shorter(id)
+        };
+    }
+    if depth == query.len() {
+        return Stop::Longer(Child::Leaf(id));
+    }
+    Stop::AtEdge(Child::Leaf(id), depth, key[depth])
+}
+
+/// Returns what follows a node of a descent.
+fn step_at<K: AsBytes, V, const P: usize>(
+    leaves: &Leaves<K, V>,
+    nodes: &Nodes<P>,
+    start: usize,
+    id: NodeId,
+    query: &[u8],
+) -> Step
+    requires { OnWay P (keys_in K.bytes leaves.now.pairs) (at nodes.now)
+        (Inner id) start query.now }
+    ensures { IsStep P (keys_in K.bytes leaves.now.pairs) (at nodes.now) id start result query.now }
+{
+    let node = nodes.read(id, &mut Visits::new());
+    let shared = shared_at(leaves, nodes, &node, start, id, query);
+    if shared.len == query.len() {
+        return Step::Stops(Stop::Longer(Child::Inner(id)));
+    }
+    let depth = node.depth();
+    if shared.len < depth {
+        return Step::Stops(Stop::AtEdge(Child::Inner(id), shared.len, shared.byte));
+    }
+    let byte = query[depth];
+    match node.find(byte) {
+        Some(child) => Step::Down(child, depth + 1, byte),
+        None => Step::Stops(Stop::AtNode(id, depth)),
+    }
+}
+
+/// Returns the number of bytes that the prefix of a node and a query have in common. They have the
+/// first `start` in common. The kept prefix tells it, if it is the whole prefix or differs.
+fn shared_at<K: AsBytes, V, const P: usize>(
+    leaves: &Leaves<K, V>,
+    nodes: &Nodes<P>,
+    node: &NodeRef<'_, P>,
+    start: usize,
+    id: NodeId,
+    query: &[u8],
+) -> Shared
+    requires way { OnWay P (keys_in K.bytes leaves.now.pairs) (at nodes.now)
+        (Inner id) start query.now }
+    requires is { at nodes.now id ≡ Some node.now }
+    ensures { (w : OnWay P (keys_in K.bytes leaves.now.pairs) (at nodes.now)
+        (Inner id) start query.now)
+        → IsShared (w.shape.front_of id) query.now result.len result.byte }
+{
+    let depth = node.depth();
+    let kept = node.prefix();
+    let count = common_len(kept, &query[start..]);
+    let len = start + count;
+    if count < kept.len() {
+        return Shared {
+            len,
+            byte: kept[count],
+        };
+    }
+    if len == depth {
+        return Shared { len, byte: 0 };
+    }
+    shared_below(leaves, nodes, start, id, query)
+}
+
+/// Does what `shared_at` does, by a leaf below the node.
+#[cold]
+#[inline(never)]
+fn shared_below<K: AsBytes, V, const P: usize>(
+    leaves: &Leaves<K, V>,
+    nodes: &Nodes<P>,
+    start: usize,
+    id: NodeId,
+    query: &[u8],
+) -> Shared
+    requires { OnWay P (keys_in K.bytes leaves.now.pairs) (at nodes.now)
+        (Inner id) start query.now }
+    ensures { (w : OnWay P (keys_in K.bytes leaves.now.pairs) (at nodes.now)
+        (Inner id) start query.now)
+        → IsShared (w.shape.front_of id) query.now result.len result.byte }
+{
+    let mut visits = Visits::new();
+    let depth = nodes.read(id, &mut visits).depth();
+    let leaf = end_under(nodes, &Child::Inner(id), true, &mut visits);
+    let (key, _) = leaves.read(leaf, &mut visits);
+    let front = &key.as_bytes()[..depth];
+    let len = start + common_len_after(front, query, start);
+    let byte = if len < depth { front[len] } else { 0 };
+    Shared { len, byte }
+}
