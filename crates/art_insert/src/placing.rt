@@ -1,5 +1,5 @@
 //! The point of a pair, room for it, and its placement.
-ghost use Rattle.std.specs.Prelude.{◌≡◌, ◌≢◌, ◌+◌, ◌<◌, ◌≤◌, ℕ, true, false, option_map, Some, None, Ok, OnOk, IfOk, OnErr};
+ghost use Rattle.std.specs.Prelude.{◌≡◌, ◌≢◌, ◌+◌, ◌<◌, ◌≤◌, ℕ, true, false, option_map, Some, None, Ok, IfOk, OnErr};
 ghost use Rattle.blart_keys.specs.Content.{stores, conflict, IsContent, IsPut};
 ghost use Rattle.blart_keys.specs.Steps.{bytes as pair_bytes, Puts, Inserts};
 ghost use Rattle.blart_keys.specs.Stored.{kept, pair_at};

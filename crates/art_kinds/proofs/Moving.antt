@@ -94,12 +94,6 @@ module _ {s v : Nodes} (f : s ≡ v) {a b c d : Store Node}
   pub stood_nodes : SameNodes v (record { fours = a; sixteens = b; forty_eights = c; fulls = d })
   stood_nodes j = kept_nodes s (record { fours = a; sixteens = b; forty_eights = c; fulls = d }) k0 k1 k2 k3 j ∙ ap (λ (z : Nodes). at z j) f
 
-  -- the number of nodes is unchanged
-  pub stood-live : live (record { fours = a; sixteens = b; forty_eights = c; fulls = d }) ≡ live v
-  stood-live =
-      let l : live (record { fours = a; sixteens = b; forty_eights = c; fulls = d }) ≡ live s = omega (arith, k0.used, k1.used, k2.used, k3.used) in
-      l ∙ ap (λ (z : Nodes). live z) f
-
   -- no room is lost
   pub stood-room : room v ≤ room (record { fours = a; sixteens = b; forty_eights = c; fulls = d })
   stood-room =

@@ -255,10 +255,3 @@ module _ {K V : Type 0} {leaves : ℕ → Option (Leaf K V)} {rows : List (Numbe
   -- if there is no last row, there is no last position
   pub last_none : last_number rows ≡ None → position_at rows (length ps - 1) ≡ None
   last_none e = ap (λ rs. position_at rs (length ps - 1)) (no_last rows e)
-
--- the number of each leaf is less than the number of cells
-pub filed_below : {K V : Type 0} (s : Store (Leaf K V)) {rows : List (Numbered (List ℕ))} {ps : List (Numbered (K × V))} → Files (slot_at s) rows (used_count s) ps → (i : ℕ) → Has ps i → i < length s.slots
-filed_below s {rows} {ps} f i has = elim (leb_tells (length s.slots) i) [
-  | inl t ↦ absurd (let a : IsSome (slot_at s i) = has_record f i has in let b : false ≡ true = rw (get_or_past s.slots i None t.1) at a in cc)
-  | inr t ↦ t.1
-]

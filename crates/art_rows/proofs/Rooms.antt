@@ -10,7 +10,7 @@ use Rattle.art_rows.specs.declared.row.Position.{Position}
 use Rattle.art_rows.proofs.NumbersLemmas.{no_first, eqb_same, eqb_other, distinct_parts, Split, split, leaf_in-split, number_after-split, with_pair-split, with_pair_after-split, without_number-split}
 use Rattle.art_rows.proofs.RowsLemmas.{numbers-append, AreFilled-parts, standing, standing-lacks, standing-row}
 use Rattle.art_rows.proofs.RowChanges.{spot-lacks, spot-row}
-use Rattle.art_rows.proofs.RowRoomLemmas.{load_full, load_ended, load_front, room_spare, turns_begun, turns_put, room_taken, room_ended, room_more, row_end_room-last}
+use Rattle.art_rows.proofs.RowRoomLemmas.{load_full, load_ended, load_front, room_spare, turns_begun, turns_put, room_taken, room_ended, row_end_room-last}
 
 -- the lengths of the rows, split at one row
 pub lengths_at : (xs ys : List (Numbered (List ℕ))) (r : ℕ) (ids : List ℕ) → lengths (xs ++ (r, ids) ∷ ys) ≡ lengths xs ++ length ids ∷ lengths ys
@@ -120,8 +120,8 @@ spot_next rows d r k next has e after = go (split rows r has).after (split rows 
         }
 
 -- the room, after a number was removed from its row
-pub taken_room : (rows : List (Numbered (List ℕ))) (k : ℕ) (p : Position) → position_at rows k ≡ Some p → AreDistinct rows → (new : List (Numbered (List ℕ))) (spare more : ℕ) → IfSome (leaf_in rows p.row) (λ ids. length ids ≡ 1 → new ≡ without_number rows p.row) → IfSome (leaf_in rows p.row) (λ ids. length ids ≢ 1 → new ≡ with_pair rows p.row (take p.place ids ++ drop (p.place + 1) ids)) → IfSome (leaf_in rows p.row) (λ ids. length ids ≡ 1 → more ≡ spare + 1) → spare ≤ more → row_room (lengths rows) spare ≤ row_room (lengths new) more
-taken_room rows k p at d new spare more one two gain grows =
+pub taken_room : (rows : List (Numbered (List ℕ))) (k : ℕ) (p : Position) → position_at rows k ≡ Some p → AreDistinct rows → (new : List (Numbered (List ℕ))) (spare more : ℕ) → IfSome (leaf_in rows p.row) (λ ids. length ids ≡ 1 → new ≡ without_number rows p.row) → IfSome (leaf_in rows p.row) (λ ids. length ids ≢ 1 → new ≡ with_pair rows p.row (take p.place ids ++ drop (p.place + 1) ids)) → IfSome (leaf_in rows p.row) (λ ids. length ids ≡ 1 → more ≡ spare + 1) → IfSome (leaf_in rows p.row) (λ ids. length ids ≢ 1 → more ≡ spare) → row_room (lengths rows) spare ≤ row_room (lengths new) more
+taken_room rows k p at d new spare more one two gain keeps =
     let s = standing rows k p at in
     let l = (standing-lacks rows k p s d).0 in
     let r = standing-row rows k p s d in
@@ -140,8 +140,8 @@ taken_room rows k p at d new spare more one two gain grows =
       | inr t ↦
           let e : new ≡ s.before ++ (p.row, out) ∷ s.after = (rw r at two) t.1 ∙ ap (λ rs. with_pair rs p.row out) s.is ∙ with_pair-split p.row s.ids s.after out s.before l in
           let g = room_taken (lengths s.before) (lengths s.after) (length out) spare in
-          let h = room_more (lengths s.before ++ length out ∷ lengths s.after) spare more grows in
-          rw (was, z, ap lengths e ∙ lengths_at s.before s.after p.row out) (omega arith)
+          let m : more ≡ spare = (rw r at keeps) t.1 in
+          rw (was, z, ap lengths e ∙ lengths_at s.before s.after p.row out, m) g
     ]
 
 -- ---- the end of the rows

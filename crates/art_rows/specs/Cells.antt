@@ -1,4 +1,4 @@
--- The cells of rows. Each row has 64, whether they are in use or not, and each cell tells its row.
+-- The cells of rows. Each row has 64, in use or not, and the row of each cell is stored.
 use Rattle.std.specs.Prelude.{◌≡◌, ℕ, ◌*◌, ◌^◌, ◌<◌, ◌≤◌, List, length, map, take, Some, slice_index_or}
 use Rattle.art_slots.specs.Words.{block_at, times, numbers as words}
 use Rattle.art_rows.specs.Numbers.{Numbered, Numbers, leaf_in, Has, AreDistinct}
@@ -11,7 +11,7 @@ pub record IsRow (low high : List ℕ) (count : ℕ) : Type 0 where
   pub once : (n : ℕ) → times (words low high) n ≤ 1
   pub small : (n : ℕ) → 0 < times (words low high) n → n < 2 ^ 61
 
--- the numbers of the cells in use of a row with this number, and this number of them
+-- the row of a number and a count: as many numbers of its block as the count says
 abbrev pub cells_of : List ℕ → Numbered ℕ → Numbered (List ℕ)
 cells_of cells r = (r.0, take r.1 (block_at cells r.0))
 
@@ -19,7 +19,7 @@ cells_of cells r = (r.0, take r.1 (block_at cells r.0))
 abbrev pub rows_of : Numbers ℕ → List ℕ → ℕ → Numbers (List ℕ)
 rows_of counts cells ready = record { pairs = map (cells_of cells) counts.pairs; spare = counts.spare; room = counts.room; top = ready; next = counts.next }
 
--- a number of a cell of row r: it comes once, it is not too great, and its cell tells the row
+-- the number n is once in the block of row r, is less than 64 * ready, and its cell has the row r
 pub record IsOwned (cells owners : List ℕ) (ready r n : ℕ) : Type 0 where
   pub once : times (block_at cells r) n ≤ 1
   pub below : n < ROW * ready

@@ -79,11 +79,6 @@ module _ {X : Type 0} where
   with_pair [] i x = []
   with_pair (p ∷ ps) i x = if eqb p.0 i then (p.0, x) ∷ ps else p ∷ with_pair ps i x
 
-  -- the pairs, with the number i replaced by j
-  abbrev pub with_number : List (Numbered X) → ℕ → ℕ → List (Numbered X)
-  with_number [] i j = []
-  with_number (p ∷ ps) i j = if eqb p.0 i then (j, p.1) ∷ ps else p ∷ with_number ps i j
-
   -- no pair of this list has the number
   abbrev pub Lacks : List (Numbered X) → ℕ → Type 0
   Lacks [] i = Unit {0}

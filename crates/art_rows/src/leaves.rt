@@ -1,7 +1,7 @@
 //! The leaf records, and their rows in the order of the keys.
-ghost use Rattle.std.specs.Prelude.{◌≡◌, ◌≢◌, ℕ, ◌+◌, ◌-◌, ◌*◌, ◌<◌, ◌≤◌, [], length, map, option_map, Some, None, IsSome, IfSome, OnOk, IfOk, OnErr};
+ghost use Rattle.std.specs.Prelude.{◌≡◌, ℕ, ◌+◌, ◌-◌, ◌*◌, ◌<◌, ◌≤◌, [], length, map, option_map, Some, None, IsSome, IfSome, OnOk, IfOk, OnErr};
 ghost use Rattle.art_rows.specs.Numbers.{leaf_in, Has, AreDistinct, first_number, last_number, number_after, number_before, without_number, with_pair};
-ghost use Rattle.art_rows.specs.Rows.{position_at, nth, start_of, RunsBefore, StandsAfter};
+ghost use Rattle.art_rows.specs.Rows.{position_at, nth, RunsBefore, StandsAfter};
 ghost use Rattle.art_rows.specs.declared.row.Position.{Position};
 ghost use Rattle.art_rows.specs.declared.row.TheConstants.{ROW};
 ghost use Rattle.art_rows.specs.Leaves.{index_of, room, end_room, TakesFirst, TakesLast, AreCopies};
@@ -54,8 +54,8 @@ impl<K: Clone, V: Clone> Clone for Leaf<K, V> {
 /// The leaves of a tree in byte order. A contract sees the pairs in order, each under its leaf's
 /// id, the rows of the ids, and the number of spare rows.
 ///
-/// The id of a leaf is the number of its cell. A row takes a cell that it has and does not use for
-/// a new leaf, so the leaves of a row lie in few places.
+/// The id of a leaf is the number of its cell. A new leaf goes into an unused cell of its row, so
+/// the leaves of a row lie in few places.
 #[derive(Drop)]
 pub struct Leaves<K, V> {
     pub(crate) records: Table<Leaf<K, V>>,
@@ -89,7 +89,7 @@ impl<K, V> Leaves<K, V> {
         }
     }
 
-    /// Does nothing. Its contract says that no id comes twice, and no number of a row.
+    /// Does nothing. Its contract says that no id comes twice, and that no number of a row does.
     pub fn law(&self)
         ensures distinct { AreDistinct self.now.pairs }
         ensures rows { AreDistinct self.now.rows }
@@ -145,6 +145,7 @@ impl<K, V> Leaves<K, V> {
             → seen.place + 1 < length ids → IsSome result) }
     {
         let row = self.rows.get(seen.row)?;
+        // A row has at most 64 numbers, so the place after this one is small.
         let _len = row.len();
         row.after(seen.place, id)
     }
@@ -346,8 +347,8 @@ impl<K, V> Leaves<K, V> {
         }
     }
 
-    /// Returns the rest of the row of a leaf, and the next row. Returns none of them if the row's
-    /// ids have high halves.
+    /// Returns the rest of the row of a leaf, and the next row. Returns neither if the ids have high
+    /// halves.
     pub fn following(&self, id: LeafId) -> Following<'_>
         requires { Has self.now.pairs id }
         ensures { StandsAfter self.now.pairs self.now.rows id result }
@@ -356,15 +357,15 @@ impl<K, V> Leaves<K, V> {
         match self.rows.read(position.row).run_after(position.place) {
             None => Following::unknown(),
             Some(run) => {
-                let row = self.row_told(position.row);
+                let row = self.row_after(position.row);
                 Following { run, row }
             }
         }
     }
 
-    /// Returns the leaf after this one. `following` has ids directly after this one in its row, and
-    /// the next row if they are all. The call sets it to those of the returned leaf. The next row
-    /// is only read at the end of a row.
+    /// Returns the leaf after this one. `following` has some of the ids directly after this one in
+    /// its row. If these are all, it may also have the next row. The call sets it to what follows
+    /// the returned leaf. The next row is read only at the end of a row.
     #[inline(always)]
     pub fn next_in<'a>(&'a self, id: LeafId, following: &mut Following<'a>) -> Option<LeafId>
         requires has { Has self.now.pairs id }
@@ -374,7 +375,7 @@ impl<K, V> Leaves<K, V> {
             (λ n. StandsAfter self.now.pairs self.now.rows n following.new) }
     {
         self.law();
-        // most steps write only the run
+        // Most steps write only the run.
         if let Some(next) = following.run.split_off_first() {
             return Some(next);
         }
@@ -392,33 +393,25 @@ impl<K, V> Leaves<K, V> {
             }
             Some(run) => {
                 following.run = run;
-                following.row = self.row_told(row);
+                following.row = self.row_after(row);
             }
         }
         Some(next)
     }
 
-    /// Returns the row after another. It reads that row at once, so that a walk that comes to it
-    /// later need not wait for it. The result goes in registers, so that no step of a walk clears
+    /// Returns the row after another. The result goes in registers, so that no step of a walk clears
     /// memory for it.
     #[cold]
     #[inline(never)]
-    fn row_told(&self, row: usize) -> Option<usize>
+    fn row_after(&self, row: usize) -> Option<usize>
         requires { Has self.now.rows row }
         ensures { result ≡ number_after self.now.rows row }
     {
-        let rows = &self.rows;
-        match rows.next_of(row) {
-            Some(next) => {
-                let _len = rows.read(next).len();
-                Some(next)
-            }
-            None => None,
-        }
+        self.rows.next_of(row)
     }
 
-    /// Returns the leaf before this one. `run` has numbers directly before this one in its row, and
-    /// the call sets it to such numbers of the returned leaf. If it is not empty, no row is read.
+    /// Returns the leaf before this one. `run` has ids directly before this one in its row, and the
+    /// call sets it to ids directly before the returned leaf. If it is not empty, no row is read.
     #[inline(always)]
     pub fn prev_in<'a>(&'a self, id: LeafId, run: &mut Run<'a>) -> Option<LeafId>
         requires has { Has self.now.pairs id }
@@ -503,8 +496,8 @@ impl<K: Clone, V: Clone> Leaves<K, V> {
 }
 
 impl<K: Drop, V: Drop> Leaves<K, V> {
-    /// Removes a leaf, and returns its pair. `seen` is a guess of the position of the leaf. If it is
-    /// right, no row is searched.
+    /// Removes a leaf, and returns its pair. `seen` is a guess of the position of the leaf. If it
+    /// is right, no row is searched.
     pub fn remove(&mut self, id: LeafId, seen: Position) -> (K, V)
         requires { Has self.old.pairs id }
         ensures value { leaf_in self.old.pairs id ≡ Some result }
@@ -528,8 +521,8 @@ impl<K: Drop, V: Drop> Leaves<K, V> {
         (leaf.key, leaf.value)
     }
 
-    /// Removes the first leaf, and returns its pair. The rows alone tell its cell. So a caller that
-    /// removes one leaf after another need not wait for one to find the next.
+    /// Removes the first leaf, and returns its pair. It finds the leaf by the rows alone. So a
+    /// caller that removes one leaf after another need not wait for one to find the next.
     pub fn take_first(&mut self) -> Option<(K, V)>
         ensures takes { TakesFirst self.old.pairs result self.new.pairs }
     {
@@ -541,7 +534,7 @@ impl<K: Drop, V: Drop> Leaves<K, V> {
         Some(self.remove_at(id, position))
     }
 
-    /// Removes the last leaf, and returns its pair. The rows alone tell its cell.
+    /// Removes the last leaf, and returns its pair. It finds the leaf by the rows alone.
     pub fn take_last(&mut self) -> Option<(K, V)>
         ensures takes { TakesLast self.old.pairs result self.new.pairs }
     {

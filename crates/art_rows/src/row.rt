@@ -1,5 +1,5 @@
 //! A row of the numbers of cells.
-ghost use Rattle.std.specs.Prelude.{◌≡◌, ℕ, ◌+◌, ◌-◌, ◌*◌, ◌^◌, ◌<◌, ◌≤◌, [], length, take, drop, Some, true, IfSome, IsSome, slice_index_or};
+ghost use Rattle.std.specs.Prelude.{◌≡◌, ℕ, ◌+◌, ◌-◌, ◌*◌, ◌<◌, ◌≤◌, length, take, drop, Some, true, IfSome, IsSome, slice_index_or};
 ghost use Rattle.art_slots.specs.Words.{numbers as words, times};
 ghost use Rattle.art_rows.specs.Rows.{among, place_in, nth, nowhere};
 ghost use Rattle.art_rows.specs.Cells.{IsRow};
@@ -14,7 +14,7 @@ pub(crate) const ROW: usize = 64;
 /// The number of numbers that go to a new row when a full row is cut.
 pub(crate) const HALF: usize = 32;
 
-/// A number has a low half below this and a high half.
+/// The low half of a number is less than this.
 const RADIX: usize = 1 << 32;
 
 /// A row, and a place in it.
@@ -35,12 +35,13 @@ impl Position {
     }
 }
 
-/// The numbers of the 64 cells of a row, with their low and high halves: those in use in the order
-/// of their keys, and then the others. A contract sees the list of the numbers of those in use.
+/// The numbers of the 64 cells of a row, as low and high halves. The cells in use come first, in the
+/// order of their keys. A contract sees the numbers of the cells in use.
 #[derive(Drop)]
 pub(crate) struct Row<'a> {
     pub(crate) low: &'a [u32],
-    /// The high halves. They are empty if all numbers are less than 2^32.
+    /// The high halves, or nothing if the list that the row is a part of has none. All its numbers
+    /// are less than 2^32 then.
     pub(crate) high: &'a [u32],
     pub(crate) count: usize,
 }
@@ -61,7 +62,7 @@ impl<'a> Model for Row<'a> {
 }
 
 impl<'a> Row<'a> {
-    /// Returns the first `count` of these numbers.
+    /// Returns a row with these numbers, of which the first `count` are in use.
     #[inline(always)]
     pub(crate) fn new(low: &'a [u32], high: &'a [u32], count: usize) -> Self
         requires { IsRow low.now high.now count }
@@ -97,7 +98,7 @@ impl<'a> Row<'a> {
         place < self.count && self.at(place) == number
     }
 
-    /// Returns the number after another, if that is at this place and is not the last.
+    /// Returns the number after `number`, if `number` is at this place and is not the last.
     #[inline(always)]
     pub(crate) fn after(&self, place: usize, number: LeafId) -> Option<LeafId>
         ensures some { IfSome result (λ n. (nth self.now place ≡ Some number)
@@ -112,7 +113,7 @@ impl<'a> Row<'a> {
         }
     }
 
-    /// Returns the number before another, if that is at this place and is not the first.
+    /// Returns the number before `number`, if `number` is at this place and is not the first.
     #[inline(always)]
     pub(crate) fn before(&self, place: usize, number: LeafId) -> Option<LeafId>
         ensures some { IfSome result (λ n. (0 < place) × (nth self.now place ≡ Some number)
@@ -198,8 +199,8 @@ fn number_at(low: &[u32], high: &[u32], place: usize) -> usize
     }
 }
 
-/// Returns the place of a number with a low and a high half, or the number of numbers if there is
-/// no such number.
+/// Returns the place of a number in a list with high halves, or the length of the list if the number
+/// is not in it.
 #[cold]
 #[inline(never)]
 fn place_of_both(low: &[u32], high: &[u32], number: usize) -> usize

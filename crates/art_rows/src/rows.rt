@@ -11,12 +11,11 @@ use art_slots::{LeafId, Words};
 use std::alloc::{AllocError, Global};
 use std::marker::Model;
 
-/// Rows in order, each of up to 64 numbers of cells. A row has 64 cells, those in use and others,
-/// and each cell tells its row. A contract sees the rows in order, each under its number as the
-/// list of the numbers of its cells in use, the number of spare rows, and the number of rows that
-/// have cells, of which none has a greater number.
+/// Rows in order. Each row has 64 cells, those in use first, and each cell has the number of its
+/// row. A row that is removed keeps its cells, and is spare.
 ///
-/// A row that is removed keeps its cells, and is spare.
+/// A contract sees the rows in order, each as its number and the numbers of its cells in use. It
+/// also sees the number of spare rows, and `top`: the rows below this number have cells.
 #[derive(Drop)]
 pub(crate) struct Rows {
     /// The number of cells in use of each row.
@@ -117,6 +116,7 @@ impl Rows {
     pub(crate) fn get(&self, row: usize) -> Option<Row<'_>>
         ensures { result ≡ leaf_in self.now.pairs row }
     {
+        // The list has fewer than 2^61 numbers, so no index overflows.
         let _len = self.cells.len();
         let count = *self.counts.get(row)?;
         Some(row_at(&self.cells, row, count))
@@ -128,6 +128,7 @@ impl Rows {
         requires { Has self.now.pairs row }
         ensures { leaf_in self.now.pairs row ≡ Some result }
     {
+        // The list has fewer than 2^61 numbers, so no index overflows.
         let _len = self.cells.len();
         row_at(&self.cells, row, *self.counts.read(row))
     }
@@ -141,8 +142,8 @@ impl Rows {
         self.owners.read(cell.number())
     }
 
-    /// Puts a cell that was not in use at a place of a row that is not full, and returns its
-    /// number.
+    /// Takes an unused cell of a row that is not full into use, at this place among those in use,
+    /// and returns its number.
     #[inline(always)]
     pub(crate) fn insert(&mut self, row: usize, place: usize) -> LeafId
         requires has { Has self.old.pairs row }
@@ -155,6 +156,7 @@ impl Rows {
         ensures spare { self.new.spare ≡ self.old.spare }
         ensures top { self.new.top ≡ self.old.top }
     {
+        // The list has fewer than 2^61 numbers, so no index overflows.
         let _len = self.cells.len();
         let count = *self.counts.read(row);
         let cell = LeafId::new(self.cells.read(ROW * row + count));
@@ -173,9 +175,10 @@ impl Rows {
         ensures more { IfSome (leaf_in self.old.pairs row) (λ ids. length ids ≢ 1
             → self.new.pairs ≡ with_pair self.old.pairs row
             (take place ids ++ drop (place + 1) ids)) }
-        ensures grows { self.old.spare ≤ self.new.spare }
         ensures gains { IfSome (leaf_in self.old.pairs row) (λ ids. length ids ≡ 1
             → self.new.spare ≡ self.old.spare + 1) }
+        ensures keeps { IfSome (leaf_in self.old.pairs row) (λ ids. length ids ≢ 1
+            → self.new.spare ≡ self.old.spare) }
         ensures top { self.new.top ≡ self.old.top }
     {
         let count = *self.counts.read(row);
@@ -200,6 +203,7 @@ impl Rows {
         ensures spare { self.new.spare + 1 ≡ self.old.spare }
         ensures top { self.new.top ≡ self.old.top }
     {
+        // The list has fewer than 2^61 numbers, so no index overflows.
         let _len = self.cells.len();
         let row = self.counts.insert(prev, 1);
         (row, LeafId::new(self.cells.read(ROW * row)))
@@ -235,8 +239,8 @@ impl Rows {
         self.counts.grow()
     }
 
-    /// Gives cells to the first `count` rows. Returns an error if it fails to allocate. The rows
-    /// and the spare rows are unchanged in both cases.
+    /// Adds cells until the first `count` rows have them. Returns an error if it fails to allocate.
+    /// The rows and the spare rows are unchanged in both cases.
     pub(crate) fn add_cells(&mut self, count: usize) -> Result<(), AllocError>
         requires { ROW * count ≤ 2 ^ 62 }
         ensures pairs { self.new.pairs ≡ self.old.pairs }
@@ -310,7 +314,7 @@ fn row_at(cells: &Words, row: usize, count: usize) -> Row<'_>
     Row::new(low, high, count)
 }
 
-/// Gives a row the 64 cells that its number stands for.
+/// Gives a row the cells from `ROW * row` to `ROW * row + 63`, in this order.
 fn number_cells(cells: &mut Words, owners: &mut Words, row: usize)
     requires cells { ROW * row + ROW ≤ length cells.old }
     requires owners { ROW * row + ROW ≤ length owners.old }
@@ -323,6 +327,7 @@ fn number_cells(cells: &mut Words, owners: &mut Words, row: usize)
     ensures owners { (n : ℕ) → n < ROW * row
         → slice_index_or owners.new n 0 ≡ slice_index_or owners.old n 0 }
 {
+    // The list has fewer than 2^61 numbers, so no index overflows.
     let _len = cells.len();
     for place in 0..ROW {
         cells.write(ROW * row + place, ROW * row + place);
@@ -330,8 +335,8 @@ fn number_cells(cells: &mut Words, owners: &mut Words, row: usize)
     }
 }
 
-/// Exchanges the upper half of the numbers of a row for the lower half of those of another, pair by
-/// pair. Each cell tells its new row.
+/// Exchanges the upper half of the cells of `row` for the lower half of the cells of `new`, one by
+/// one, and updates the row of each cell.
 #[cold]
 #[inline(never)]
 fn exchange_halves(cells: &mut Words, owners: &mut Words, row: usize, new: usize)
@@ -347,6 +352,7 @@ fn exchange_halves(cells: &mut Words, owners: &mut Words, row: usize, new: usize
     ensures own { (ready : ℕ) → row < ready → new < ready
         → HaveCells cells.old owners.old ready → HaveCells cells.new owners.new ready }
 {
+    // The list has fewer than 2^61 numbers, so no index overflows.
     let _len = cells.len();
     for place in 0..HALF {
         let (from, to) = (ROW * row + HALF + place, ROW * new + place);

@@ -1,6 +1,6 @@
 //! Takes leaves apart. Each pattern names every field of its type, so a new field does not compile
 //! until a test looks at it.
-ghost use Rattle.std.specs.Prelude.{◌<◌, length};
+ghost use Rattle.std.specs.Prelude.{◌<◌};
 
 use crate::chain::{Chain, Link};
 use crate::following::Following;
@@ -49,8 +49,8 @@ fn assert_cell(rt: &impl Abort, rows: &Rows, row: usize, place: usize, number: u
     assert!(rt; number_at(rt, &rows.owners, number) == row);
 }
 
-/// Asserts that a row has its own 64 cells in order, of which as many are in use as it should have,
-/// and that it is linked to the rows beside it.
+/// Asserts that a row has its own 64 cells in order, and is linked to the rows beside it. All its
+/// cells are in use, or 40 if it is the last row.
 fn assert_row(rt: &impl Abort, rows: &Rows, number: usize) {
     let Some(Link { item, prev, next }) = rows.counts.records.get(number) else {
         panic!(rt; "a row");

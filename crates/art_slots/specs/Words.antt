@@ -1,4 +1,4 @@
--- The numbers of which two lists have the low and the high halves, and blocks of them.
+-- Lists of numbers that are stored as two lists, of their low and of their high halves.
 use Rattle.std.specs.Prelude.{◌≤◌, ◌+◌, ◌*◌, ◌^◌, ◌⊎◌, ℕ, List, [], ◌∷◌, ◌++◌, length, take, drop, slice_index_or, eqb, count_by}
 
 -- the numbers with these low and high halves; a number with no high half is its low half

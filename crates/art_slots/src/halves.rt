@@ -98,7 +98,7 @@ impl Halves {
         block < self.blocks.len()
     }
 
-    /// Returns neighbouring numbers of a block.
+    /// Returns the numbers of a block at the places from `from` up to `to`.
     #[inline(always)]
     pub fn part(&self, block: usize, from: usize, to: usize) -> &[u32]
         requires block { 64 * block + 64 ≤ length self.now }
@@ -109,7 +109,8 @@ impl Halves {
         &self.blocks.read(block).halves[from..to]
     }
 
-    /// Moves a number of a block to an earlier place, and those between one place on.
+    /// Moves the number at the place `from` of a block to the earlier place `to`. Each number
+    /// between moves one place up.
     #[inline(always)]
     pub fn move_down(&mut self, block: usize, from: usize, to: usize)
         requires block { 64 * block + 64 ≤ length self.old }
@@ -122,7 +123,8 @@ impl Halves {
         self.blocks.get_mut(block).halves[to..from + 1].rotate_right(1);
     }
 
-    /// Moves a number of a block to a later place, and those between one place back.
+    /// Moves the number at the place `from` of a block to the later place `to`. Each number between
+    /// moves one place down.
     #[inline(always)]
     pub fn move_up(&mut self, block: usize, from: usize, to: usize)
         requires block { 64 * block + 64 ≤ length self.old }

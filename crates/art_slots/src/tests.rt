@@ -119,7 +119,7 @@ fn numbers_of_two_halves(rt: HostRuntime) {
     assert!(rt; words.read(3) == 5);
 }
 
-/// Returns the first number at an index of [`mixed_list`].
+/// Returns the number that [`mixed_list`] has at an index.
 fn number_at(i: usize) -> usize {
     if i < 128 { i | (i << 40) } else { i }
 }
@@ -142,7 +142,7 @@ fn mixed_list(rt: &impl Abort, alloc: Global) -> Words {
     Words { low, high }
 }
 
-/// Returns the place that a number had before a number moved from one place to another.
+/// Returns where the number at `place` was before the number at `from` was moved to `to`.
 fn place_before(place: usize, from: usize, to: usize) -> usize {
     if place == to {
         from

@@ -85,8 +85,8 @@ impl Words {
         }
     }
 
-    /// Returns the low and the high halves of neighbouring numbers of a block of 64. There are no
-    /// high halves if the list is short.
+    /// Returns the low and the high halves of the numbers of a block of 64 at the places from `from`
+    /// up to `to`. The second slice is empty if the list has no high halves.
     #[inline(always)]
     pub fn halves(&self, block: usize, from: usize, to: usize) -> (&[u32], &[u32])
         requires block { 64 * block + 64 ≤ length self.now }
@@ -103,7 +103,8 @@ impl Words {
         }
     }
 
-    /// Moves a number of a block of 64 to an earlier place, and those between one place on.
+    /// Moves the number at the place `from` of a block of 64 to the earlier place `to`. Each number
+    /// between moves one place up.
     #[inline(always)]
     pub fn move_down(&mut self, block: usize, from: usize, to: usize)
         requires block { 64 * block + 64 ≤ length self.old }
@@ -124,7 +125,8 @@ impl Words {
         }
     }
 
-    /// Moves a number of a block of 64 to a later place, and those between one place back.
+    /// Moves the number at the place `from` of a block of 64 to the later place `to`. Each number
+    /// between moves one place down.
     #[inline(always)]
     pub fn move_up(&mut self, block: usize, from: usize, to: usize)
         requires block { 64 * block + 64 ≤ length self.old }

@@ -16,8 +16,6 @@ mod making;
 mod neighbours;
 mod pages;
 mod paging;
-#[cfg(test)]
-mod tests;
 mod tree;
 
 pub use calls::{

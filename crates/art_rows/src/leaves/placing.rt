@@ -1,6 +1,6 @@
 //! Placements of leaves.
 ghost use Rattle.std.specs.Prelude.{◌≡◌, ℕ, ◌+◌, ◌<◌, ◌≤◌, ◌++◌, ◌∷◌, [], length, take, drop, Some, None, IsSome, IfSome, IfNone};
-ghost use Rattle.art_rows.specs.Numbers.{leaf_in, Has, last_number, number_after, with_pair_after, with_pair};
+ghost use Rattle.art_rows.specs.Numbers.{leaf_in, Has, last_number, with_pair_after, with_pair};
 ghost use Rattle.art_rows.specs.Rows.{position_at, IsSpot, row_end};
 ghost use Rattle.art_rows.specs.Leaves.{room, end_room, spot_index};
 
@@ -16,14 +16,6 @@ impl<K: Drop, V: Drop> Leaves<K, V> {
         ensures fits { result ≤ ROW }
     {
         self.rows.read(row).len()
-    }
-
-    /// Returns the row after another.
-    fn row_after(&self, row: usize) -> Option<usize>
-        requires { Has self.now.rows row }
-        ensures { result ≡ number_after self.now.rows row }
-    {
-        self.rows.next_of(row)
     }
 
     /// Places a pair after the leaf `prev`, or before all leaves, and returns its id. `seen` is a
@@ -88,7 +80,7 @@ impl<K: Drop, V: Drop> Leaves<K, V> {
         self.begin(Some(last), Some(position.row), key, value)
     }
 
-    /// Cuts a full row in half, and places a pair at a position in it.
+    /// Cuts a full row in half, and places a pair at a position that the row had before the cut.
     #[cold]
     #[inline(never)]
     fn put_apart(&mut self, prev: Option<LeafId>, position: Position, key: K, value: V) -> LeafId

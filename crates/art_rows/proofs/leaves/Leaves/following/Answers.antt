@@ -28,4 +28,4 @@ returns-in-Some g c =
     let p = c.position_of-position.result in
     let is : leaf_in c.args.self.now.rows p.row ≡ Some c.read.result = rw (← ap (λ t. t.rows) c.self.view_is) c.read.ensures in
     let there : nth c.read.result p.place ≡ Some c.args.id = sym (number_there f k p c.position_of-position.ensures c.read.result is) ∙ nth-place (map (λ q. q.0) ps) c.args.id (among-numbers ps c.args.id c.requires) in
-    following_there f k p c.position_of-position.ensures c.read.result is c.args.id there (record { run = c.in-Some.run'; row = c.row_told-row.result }) c.in-Some.ensures c.row_told-row.ensures
+    following_there f k p c.position_of-position.ensures c.read.result is c.args.id there (record { run = c.in-Some.run'; row = c.row_after-row.result }) c.in-Some.ensures c.row_after-row.ensures

@@ -55,5 +55,5 @@ returns-clause-following g c =
     let next = c.at-next.result in
     elim c.match-run_after.branch [
       | in-None w ↦ rw w.following-is (unknown_after c.args.self.now.pairs c.args.self.now.rows (Some next) _ w.empty-following-in-None.ensures refl)
-      | in-Some-run_after w ↦ rw w.following-is (following_there f _ (start_of c.in-Some-row.row) at c.read-ids.result is next c.at-next.ensures _ w.in-Some-run_after.ensures w.row_told-following.ensures)
+      | in-Some-run_after w ↦ rw w.following-is (following_there f _ (start_of c.in-Some-row.row) at c.read-ids.result is next c.at-next.ensures _ w.in-Some-run_after.ensures w.row_after-following.ensures)
     ]

@@ -37,5 +37,5 @@ pub returns-clause-room : goal.returns-clause-room
 returns-clause-room g c =
     let f = seen c.self.inside c.self.view_is c.self.invariant in
     let at = rw (← ap (λ t. t.rows) c.self.view_is) at c.requires.at in
-    let a = taken_room c.self.inside.rows.pairs _ c.args.position at f.apart c.remove.new.self.pairs c.self.inside.rows.spare c.remove.new.self.spare c.remove.ensures.one c.remove.ensures.more c.remove.ensures.gains c.remove.ensures.grows in
+    let a = taken_room c.self.inside.rows.pairs _ c.args.position at f.apart c.remove.new.self.pairs c.self.inside.rows.spare c.remove.new.self.spare c.remove.ensures.one c.remove.ensures.more c.remove.ensures.gains c.remove.ensures.keeps in
     rw (← c.self.view_is) a

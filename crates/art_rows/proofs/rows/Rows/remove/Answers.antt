@@ -1,4 +1,4 @@
-use Rattle.std.proofs.Common.{◌-◌, ◌<◌, length, sym, ◌∙◌, arith}
+use Rattle.std.proofs.Common.{◌-◌, ◌<◌, length, ap, sym, ◌∙◌, arith}
 use Rattle.art_rows.proofs.OwnedCells.{own_moved}
 use Rattle.art_rows.proofs.OwnedRows.{has_now, row_length, from_now, to_now, remove_now, without_now, owned_counted, owned_removed}
 use Rattle.art_rows.proofs.rows.Rows.remove.Goals as goal
@@ -60,3 +60,13 @@ pub returns-else-count-eq1-clause-gains : goal.returns-else-count-eq1-clause-gai
 returns-else-count-eq1-clause-gains c =
     let n = c.read-count.result.now in
     to_now c.self.invariant c.self.view_is c.args.row n c.read-count.ensures _ (λ e. absurd (c.if-count-eq1.false (sym (row_length c.self.invariant c.self.view_is c.args.row n c.read-count.ensures) ∙ e)))
+
+pub returns-then-count-eq1-clause-keeps : goal.returns-then-count-eq1-clause-keeps
+returns-then-count-eq1-clause-keeps c =
+    let n = c.read-count.result.now in
+    to_now c.self.invariant c.self.view_is c.args.row n c.read-count.ensures _ (λ ne. absurd (ne (row_length c.self.invariant c.self.view_is c.args.row n c.read-count.ensures ∙ c.if-count-eq1.true)))
+
+pub returns-else-count-eq1-clause-keeps : goal.returns-else-count-eq1-clause-keeps
+returns-else-count-eq1-clause-keeps c =
+    let n = c.read-count.result.now in
+    to_now c.self.invariant c.self.view_is c.args.row n c.read-count.ensures _ (λ ne. ap (λ t. t.spare) c.self.view_is)
