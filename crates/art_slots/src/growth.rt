@@ -1,6 +1,6 @@
 //! How slabs grow.
-ghost use Rattle.std.specs.Prelude.{◌≡◌, OnOk};
-ghost use Rattle.slab.specs.Slab.{HasRoomFor};
+ghost use Rattle.std.specs.Prelude.{◌≡◌, ◌-◌, ◌<◌, OnOk, OnErr};
+ghost use Rattle.slab.specs.Slab.{slab_len, HasRoomFor};
 
 use slab::Slab;
 use std::alloc::AllocError;
@@ -16,6 +16,8 @@ const LEAST: usize = 4;
 /// is enough. If values come one at a time, each is moved a bounded number of times on average.
 pub(crate) fn make_room<T>(slab: &mut Slab<T>, more: usize) -> Result<(), AllocError>
     ensures room { OnOk result (HasRoomFor slab.new more) }
+    ensures needed { OnErr result (slab.old.capacity - slab_len slab.old < more) }
+    ensures same { HasRoomFor slab.old more → slab.new ≡ slab.old }
     ensures rest { slab.new ≡ record slab.old { capacity = slab.new.capacity } }
 {
     let len = slab.len();

@@ -1,5 +1,5 @@
 //! A list of numbers of 32 bits, in blocks.
-ghost use Rattle.std.specs.Prelude.{◌≡◌, ◌≢◌, ℕ, ◌+◌, ◌-◌, ◌*◌, ◌^◌, ◌<◌, ◌≤◌, max, true, false, [], ◌++◌, length, take, drop, replicate, slice_index_or, slice_set, OnOk, IfOk};
+ghost use Rattle.std.specs.Prelude.{◌≡◌, ◌≢◌, ℕ, ◌+◌, ◌-◌, ◌*◌, ◌^◌, ◌<◌, ◌≤◌, max, true, false, [], ◌++◌, length, take, drop, replicate, slice_index_or, slice_set, OnOk, IfOk, OnErr};
 ghost use Rattle.art_slots.specs.Words.{block_at, moved_down, moved_up};
 ghost use Rattle.art_slots.specs.Halves.{AddsZeros};
 
@@ -144,6 +144,7 @@ impl Halves {
         ensures grows { length self.old ≤ length self.new }
         ensures enough { OnOk result (count * BLOCK ≤ length self.new) }
         ensures most { length self.new ≤ max (length self.old) (count * BLOCK) }
+        ensures needed { OnErr result (length self.old < count * BLOCK) }
     {
         let len = self.blocks.len();
         if count <= len {

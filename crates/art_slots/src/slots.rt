@@ -1,5 +1,5 @@
 //! The slots of a store: the records and the spare slots, in a slab.
-ghost use Rattle.std.specs.Prelude.{◌≡◌, ◌≢◌, ℕ, ◌+◌, ◌^◌, ◌<◌, ◌≤◌, max, [], option_map, Some, None, IsSome, is_some, OnOk, IfOk};
+ghost use Rattle.std.specs.Prelude.{◌≡◌, ◌≢◌, ℕ, ◌+◌, ◌^◌, ◌<◌, ◌≤◌, max, [], option_map, Some, None, IsSome, is_some, OnOk, IfOk, OnErr};
 ghost use Rattle.art_slots.specs.Store.{slot_at, used_count, SameRecords, AreClones};
 ghost use Rattle.art_slots.specs.Chain.{used_of};
 ghost use Rattle.std.specs.Borrow.{Lends, sem};
@@ -207,6 +207,7 @@ impl<T> Slots<T> {
     pub fn grow(&mut self, count: usize) -> Result<(), AllocError>
         ensures same { self.new.store ≡ self.old.store }
         ensures room { OnOk result (count ≤ self.new.room) }
+        ensures needed { OnErr result (self.old.room < max count 1) }
         ensures top { self.new.top ≡ self.old.top }
         ensures next { self.new.next ≡ self.old.next }
     {

@@ -1,5 +1,5 @@
 //! Records at numbers that the caller names.
-ghost use Rattle.std.specs.Prelude.{◌≡◌, ◌≢◌, ℕ, ◌+◌, ◌^◌, ◌<◌, ◌≤◌, max, [], length, Some, None, IsSome, OnOk, IfOk};
+ghost use Rattle.std.specs.Prelude.{◌≡◌, ◌≢◌, ℕ, ◌+◌, ◌^◌, ◌<◌, ◌≤◌, max, [], length, Some, None, IsSome, OnOk, IfOk, OnErr};
 ghost use Rattle.art_slots.specs.Store.{slot_at, used_count, SameRecords, AreClones};
 ghost use Rattle.art_slots.specs.Table.{held, AddsEmpty};
 ghost use Rattle.std.specs.Borrow.{Lends, sem};
@@ -138,6 +138,7 @@ impl<T> Table<T> {
         ensures grows { length self.old.slots ≤ length self.new.slots }
         ensures enough { OnOk result (count ≤ length self.new.slots) }
         ensures most { length self.new.slots ≤ max (length self.old.slots) count }
+        ensures needed { OnErr result (length self.old.slots < count) }
     {
         if count <= self.cells.len() {
             return Ok(());

@@ -1,6 +1,6 @@
 //! A list of numbers that are less than its length.
-ghost use Rattle.std.specs.Prelude.{◌≡◌, ◌≢◌, ◌+◌, ◌*◌, ◌^◌, ◌<◌, ◌≤◌, ◌++◌, ℕ, [], ◌∷◌, length, take, drop, slice_index_or, slice_set, OnOk, OnErr, IfOk};
-ghost use Rattle.art_slots.specs.Words.{numbers, block_at, times};
+ghost use Rattle.std.specs.Prelude.{◌≡◌, ◌≢◌, ◌+◌, ◌*◌, ◌^◌, ◌<◌, ◌≤◌, ℕ, [], length, max, take, drop, slice_index_or, slice_set, OnOk, OnErr, IfOk};
+ghost use Rattle.art_slots.specs.Words.{numbers, block_at, times, moved_down, moved_up};
 
 use crate::halves::{BLOCK, Halves};
 use std::alloc::{AllocError, Global};
@@ -110,10 +110,7 @@ impl Words {
         requires block { 64 * block + 64 ≤ length self.old }
         requires order { to ≤ from }
         requires within { from < 64 }
-        ensures first { take (from + 1) (block_at self.new block)
-            ≡ take to (block_at self.old block)
-            ++ slice_index_or (block_at self.old block) from 0
-            ∷ drop to (take from (block_at self.old block)) }
+        ensures moved { block_at self.new block ≡ moved_down (block_at self.old block) from to }
         ensures same { (n : ℕ) → times (block_at self.new block) n
             ≡ times (block_at self.old block) n }
         ensures others { (j : ℕ) → j ≢ block → block_at self.new j ≡ block_at self.old j }
@@ -132,9 +129,7 @@ impl Words {
         requires block { 64 * block + 64 ≤ length self.old }
         requires order { from ≤ to }
         requires within { to < 64 }
-        ensures first { take to (block_at self.new block)
-            ≡ take from (block_at self.old block)
-            ++ drop (from + 1) (take (to + 1) (block_at self.old block)) }
+        ensures moved { block_at self.new block ≡ moved_up (block_at self.old block) from to }
         ensures same { (n : ℕ) → times (block_at self.new block) n
             ≡ times (block_at self.old block) n }
         ensures others { (j : ℕ) → j ≢ block → block_at self.new j ≡ block_at self.old j }
@@ -152,6 +147,7 @@ impl Words {
         ensures same { take (length self.old) self.new ≡ self.old }
         ensures grows { length self.old ≤ length self.new }
         ensures enough { OnOk result (count ≤ length self.new) }
+        ensures most { length self.new ≤ max (length self.old) (count + 63) }
         ensures needed { OnErr result (length self.old < count) }
     {
         if count <= self.len() {

@@ -1,8 +1,14 @@
-use Rattle.std.proofs.Common.{◌≡◌, ◌*◌, length, ap, sym, ◌∙◌, subst, arith}
+use Rattle.std.proofs.Common.{◌≡◌, ◌*◌, length, ap, sym, ◌∙◌, subst, Ok, Err, arith}
+use Rattle.std.specs.Prelude.{Result, OnErr}
 use Rattle.std.proofs.lemmas.Result.{on_ok_weaker}
 use Rattle.art_slots.specs.Halves.{joined, AreWhole}
 use Rattle.art_slots.proofs.Blocks.{length-joined, whole-more, zeros-more}
 use Rattle.art_slots.proofs.halves.Halves.grow.Goals as goal
+
+-- if P holds, it holds on an error
+on_err : {A E P : Type 0} (r : Result A E) → P → OnErr r P
+on_err (Ok x) p = tt
+on_err (Err e) p = p
 
 -- the blocks are whole after memory was reserved
 whole : (c : goal.After-add_zeros) → AreWhole c.reserve.new.self.items
@@ -44,3 +50,24 @@ returns-clause-most c =
     let n = length-new c in
     let m = c.add_zeros.ensures.adds.most in
     omega arith
+
+pub returns-then-count-gt-MOST_BLOCKS-clause-needed : goal.returns-then-count-gt-MOST_BLOCKS-clause-needed
+returns-then-count-gt-MOST_BLOCKS-clause-needed c =
+    let n = length-joined c.self.inside.blocks.items c.self.invariant.0 in
+    let e = c.len-len.ensures in
+    let f = c.if-count-len.false in
+    rw (← c.self.view_is) (omega arith)
+
+pub returns-in_err-reserve-clause-needed : goal.returns-in_err-reserve-clause-needed
+returns-in_err-reserve-clause-needed c =
+    let n = length-joined c.self.inside.blocks.items c.self.invariant.0 in
+    let e = c.len-len.ensures in
+    let f = c.if-count-len.false in
+    rw (← c.self.view_is) (on_err c.from_residual.result (omega arith))
+
+pub returns-clause-needed : goal.returns-clause-needed
+returns-clause-needed c =
+    let n = length-joined c.self.inside.blocks.items c.self.invariant.0 in
+    let e = c.len-len.ensures in
+    let f = c.if-count-len.false in
+    rw (← c.self.view_is) (on_err c.add_zeros.result (omega arith))

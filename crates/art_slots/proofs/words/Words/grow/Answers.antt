@@ -44,3 +44,14 @@ returns-clause-enough c =
     let n = length-numbers c.grow-2.new.self c.if-blocks-gt-LOW_BLOCKS.self-inside.high in
     let f = c.if-count-len.false in
     on_ok_weaker c.grow-2.result (λ e. omega arith) c.grow-2.ensures.enough
+
+pub returns-in_err-grow-clause-most : goal.returns-in_err-grow-clause-most
+returns-in_err-grow-clause-most c = rw (unchanged c) (omega arith)
+
+pub returns-clause-most : goal.returns-clause-most
+returns-clause-most c =
+    let n = length-numbers c.grow-2.new.self c.if-blocks-gt-LOW_BLOCKS.self-inside.high in
+    let f = c.if-count-len.false in
+    let m = c.grow-2.ensures.most in
+    let l = long c in
+    omega arith
