@@ -4,8 +4,8 @@ use Rattle.std.specs.Prelude.{option_map, IfSome}
 use Rattle.std.proofs.lemmas.Bool.{cases_Bool}
 use Rattle.std.proofs.lemmas.Bool.Decides.{eqb_tells}
 use Rattle.std.proofs.lemmas.List.{length-take-le, length-drop, take-take, take_all, take_at, take_more}
-use Rattle.art_slots.specs.Words.{block_at}
-use Rattle.art_slots.proofs.BlocksOf.{at_block, length-block}
+use Rattle.art_slots.specs.Words.{block_at, moved_down, moved_up}
+use Rattle.art_slots.proofs.CallerLemmas.{at_block, length-block, take-moved_down, take-moved_up}
 use Rattle.art_rows.specs.Numbers.{Numbered, Numbers, leaf_in, Has, with_pair_after, with_pair, without_number, Lacks}
 use Rattle.art_rows.specs.Rows.{among, numbers, row_with}
 use Rattle.art_rows.specs.Cells.{cells_of, rows_of, HaveCells, IsOwned, AreOwned}
@@ -240,16 +240,19 @@ module _ {counts : Numbers ℕ} {cells owners : List ℕ} {ready : ℕ} {now : N
     to_now P h = rw row_now h
 
     -- after a cell was put at a place
-    pub insert_now : (cells' : List ℕ) (place cell : ℕ) → place ≤ count → count < 64 → cell ≡ get_or cells (64 * r + count) 0 → take (count + 1) (block_at cells' r) ≡ take place (block_at cells r) ++ get_or (block_at cells r) count 0 ∷ drop place (take count (block_at cells r)) → ((j : ℕ) → j ≢ r → block_at cells' j ≡ block_at cells j) → map (cells_of cells') (with_pair counts.pairs r (count + 1)) ≡ with_pair now.pairs r (take place (first_of cells r count) ++ cell ∷ drop place (first_of cells r count))
-    insert_now cells' place cell le lt is first others =
+    pub insert_now : (cells' : List ℕ) (place cell : ℕ) → place ≤ count → count < 64 → cell ≡ get_or cells (64 * r + count) 0 → block_at cells' r ≡ moved_down (block_at cells r) count place → ((j : ℕ) → j ≢ r → block_at cells' j ≡ block_at cells j) → map (cells_of cells') (with_pair counts.pairs r (count + 1)) ≡ with_pair now.pairs r (take place (first_of cells r count) ++ cell ∷ drop place (first_of cells r count))
+    insert_now cells' place cell le lt is moved others =
+        let first = ap (take (count + 1)) moved ∙ take-moved_down (block_at cells r) count place le (omega (arith, length-block cells r row_within)) in
         let a : get_or (block_at cells r) count 0 ≡ cell = at_block cells r count lt ∙ sym is in
         let b : take place (first_of cells r count) ≡ take place (block_at cells r) = take-take place count (block_at cells r) le in
         let f : first_of cells' r (count + 1) ≡ take place (first_of cells r count) ++ cell ∷ drop place (first_of cells r count) = first ∙ rw (a, b) refl in
         rows-with_pair cells cells' counts.pairs r (count + 1) (take place (first_of cells r count) ++ cell ∷ drop place (first_of cells r count)) o.distinct others f ∙ ap (λ ps. with_pair ps r (take place (first_of cells r count) ++ cell ∷ drop place (first_of cells r count))) pairs_now
 
     -- after the cell at a place was removed
-    pub remove_now : (cells' : List ℕ) (place : ℕ) → place < count → take (count - 1) (block_at cells' r) ≡ take place (block_at cells r) ++ drop (place + 1) (take (count - 1 + 1) (block_at cells r)) → ((j : ℕ) → j ≢ r → block_at cells' j ≡ block_at cells j) → map (cells_of cells') (with_pair counts.pairs r (count - 1)) ≡ with_pair now.pairs r (take place (first_of cells r count) ++ drop (place + 1) (first_of cells r count))
-    remove_now cells' place lt first others =
+    pub remove_now : (cells' : List ℕ) (place : ℕ) → place < count → block_at cells' r ≡ moved_up (block_at cells r) place (count - 1) → ((j : ℕ) → j ≢ r → block_at cells' j ≡ block_at cells j) → map (cells_of cells') (with_pair counts.pairs r (count - 1)) ≡ with_pair now.pairs r (take place (first_of cells r count) ++ drop (place + 1) (first_of cells r count))
+    remove_now cells' place lt moved others =
+        let k = o.counted r count e in
+        let first = ap (take (count - 1)) moved ∙ take-moved_up (block_at cells r) place (count - 1) (omega arith) (omega (arith, length-block cells r row_within)) in
         let a : count - 1 + 1 ≡ count = omega arith in
         let b : take place (first_of cells r count) ≡ take place (block_at cells r) = take-take place count (block_at cells r) (omega arith) in
         let f : first_of cells' r (count - 1) ≡ take place (first_of cells r count) ++ drop (place + 1) (first_of cells r count) = first ∙ rw (a, b) refl in

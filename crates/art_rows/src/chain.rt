@@ -1,5 +1,5 @@
 //! A chain of records. Each record has a number, and is linked to its neighbours.
-ghost use Rattle.std.specs.Prelude.{◌≡◌, ◌+◌, ◌^◌, ◌<◌, max, ℕ, [], length, option_map, Some, None, IsSome, IfSome, OnOk, IfOk};
+ghost use Rattle.std.specs.Prelude.{◌≡◌, ◌+◌, ◌^◌, ◌<◌, max, ℕ, [], length, option_map, Some, None, IsSome, IfSome, OnOk, IfOk, OnErr};
 ghost use Rattle.std.specs.Borrow.{sem};
 ghost use Rattle.art_slots.specs.Store.{slot_at, used_count};
 ghost use Rattle.art_rows.specs.Numbers.{leaf_in, Has, first_number, last_number, number_after, number_before, with_pair_after, without_number};
@@ -77,6 +77,7 @@ fn set_next<T>(
     ensures first { first.new ≡ end_with at to first.old }
     ensures used { used_count records.new.store ≡ used_count records.old.store }
     ensures spare { records.new.store.spare ≡ records.old.store.spare }
+    ensures room { records.new.room ≡ records.old.room }
     ensures top { records.new.top ≡ records.old.top }
 {
     match at {
@@ -98,6 +99,7 @@ fn set_prev<T>(
     ensures last { last.new ≡ end_with at to last.old }
     ensures used { used_count records.new.store ≡ used_count records.old.store }
     ensures spare { records.new.store.spare ≡ records.old.store.spare }
+    ensures room { records.new.room ≡ records.old.room }
     ensures top { records.new.top ≡ records.old.top }
 {
     match at {
@@ -111,6 +113,7 @@ impl Chain<usize> {
     /// allocate.
     pub(crate) fn clone(&self) -> Result<Self, AllocError>
         ensures same { IfOk result (λ copy. copy.pairs ≡ self.now.pairs) }
+        ensures spare { IfOk result (λ copy. copy.spare ≡ self.now.spare) }
         ensures top { IfOk result (λ copy. copy.top ≡ self.now.top) }
     {
         Ok(Chain {
@@ -236,6 +239,7 @@ impl<T: Drop> Chain<T> {
         ensures placed { self.new.pairs ≡ with_pair_after prev (result, item) self.old.pairs }
         ensures spare { self.new.spare + 1 ≡ self.old.spare }
         ensures below { result < self.old.top }
+        ensures room { self.new.room ≡ self.old.room }
         ensures top { self.new.top ≡ self.old.top }
     {
         let next = match prev {
@@ -259,6 +263,7 @@ impl<T: Drop> Chain<T> {
         ensures value { leaf_in self.old.pairs id ≡ Some result }
         ensures rest { self.new.pairs ≡ without_number self.old.pairs id }
         ensures spare { self.new.spare ≡ self.old.spare + 1 }
+        ensures room { self.new.room ≡ self.old.room }
         ensures top { self.new.top ≡ self.old.top }
     {
         let link = self.records.take(id);
@@ -274,6 +279,7 @@ impl<T: Drop> Chain<T> {
         ensures spare { self.new.spare ≡ self.old.spare }
         ensures top { self.new.top ≡ self.old.top }
         ensures ok { OnOk result (0 < self.new.room) }
+        ensures needed { OnErr result (self.old.room ≡ 0) }
     {
         self.records.grow(1)
     }
@@ -283,6 +289,7 @@ impl<T: Drop> Chain<T> {
         requires { 0 < self.old.room }
         ensures pairs { self.new.pairs ≡ self.old.pairs }
         ensures spare { self.new.spare ≡ self.old.spare + 1 }
+        ensures room { self.new.room + 1 ≡ self.old.room }
         ensures top { self.new.top ≡ max self.old.top (self.old.next + 1) }
     {
         self.records.add_spare();

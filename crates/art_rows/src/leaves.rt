@@ -482,11 +482,13 @@ impl<K, V> Leaves<K, V> {
 }
 
 impl<K: Clone, V: Clone> Leaves<K, V> {
-    /// Returns the leaves under the same numbers, with a clone of each key and value, or an error
-    /// if it fails to allocate.
+    /// Returns the leaves in the same rows, with a clone of each key and value, and as many spare
+    /// rows, or an error if it fails to allocate.
     pub fn clone(&self) -> Result<Self, AllocError>
         ensures cloned { IfOk result
             (λ copy. AreCopies K.is_clone V.is_clone self.now.pairs copy.pairs) }
+        ensures rows { IfOk result (λ copy. copy.rows ≡ self.now.rows) }
+        ensures spare_rows { IfOk result (λ copy. copy.spare_rows ≡ self.now.spare_rows) }
     {
         Ok(Leaves {
             records: self.records.clone()?,
@@ -525,6 +527,7 @@ impl<K: Drop, V: Drop> Leaves<K, V> {
     /// caller that removes one leaf after another need not wait for one to find the next.
     pub fn take_first(&mut self) -> Option<(K, V)>
         ensures takes { TakesFirst self.old.pairs result self.new.pairs }
+        ensures room { room self.old ≤ room self.new }
     {
         let _ = &self.rows;
         let Some(position) = self.first_position() else {
@@ -537,6 +540,7 @@ impl<K: Drop, V: Drop> Leaves<K, V> {
     /// Removes the last leaf, and returns its pair. It finds the leaf by the rows alone.
     pub fn take_last(&mut self) -> Option<(K, V)>
         ensures takes { TakesLast self.old.pairs result self.new.pairs }
+        ensures room { room self.old ≤ room self.new }
     {
         let _ = &self.rows;
         let Some(position) = self.last_position() else {

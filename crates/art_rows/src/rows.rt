@@ -1,5 +1,5 @@
 //! Rows of the numbers of cells, in order.
-ghost use Rattle.std.specs.Prelude.{◌≡◌, ◌≢◌, ℕ, ◌+◌, ◌-◌, ◌*◌, ◌^◌, ◌<◌, ◌≤◌, ◌++◌, [], ◌∷◌, List, length, max, take, drop, Some, None, true, false, IfSome, OnOk, IfOk, slice_index_or};
+ghost use Rattle.std.specs.Prelude.{◌≡◌, ◌≢◌, ℕ, ◌+◌, ◌-◌, ◌*◌, ◌^◌, ◌<◌, ◌≤◌, ◌++◌, [], ◌∷◌, List, length, max, take, drop, Some, None, true, false, IfSome, OnOk, IfOk, OnErr, slice_index_or};
 ghost use Rattle.art_slots.specs.Words.{block_at, times};
 ghost use Rattle.art_rows.specs.Numbers.{leaf_in, Has, first_number, last_number, number_after, number_before, with_pair_after, with_pair, without_number};
 ghost use Rattle.art_rows.specs.Rows.{among, numbers, row_with};
@@ -154,6 +154,7 @@ impl Rows {
         ensures fresh { among (numbers self.old.pairs) result ≡ false }
         ensures lies { result < ROW * self.old.top }
         ensures spare { self.new.spare ≡ self.old.spare }
+        ensures room { self.new.room ≡ self.old.room }
         ensures top { self.new.top ≡ self.old.top }
     {
         // The list has fewer than 2^61 numbers, so no index overflows.
@@ -179,6 +180,7 @@ impl Rows {
             → self.new.spare ≡ self.old.spare + 1) }
         ensures keeps { IfSome (leaf_in self.old.pairs row) (λ ids. length ids ≢ 1
             → self.new.spare ≡ self.old.spare) }
+        ensures room { self.new.room ≡ self.old.room }
         ensures top { self.new.top ≡ self.old.top }
     {
         let count = *self.counts.read(row);
@@ -201,6 +203,7 @@ impl Rows {
         ensures fresh { among (numbers self.old.pairs) result.1 ≡ false }
         ensures lies { result.1 < ROW * self.old.top }
         ensures spare { self.new.spare + 1 ≡ self.old.spare }
+        ensures room { self.new.room ≡ self.old.room }
         ensures top { self.new.top ≡ self.old.top }
     {
         // The list has fewer than 2^61 numbers, so no index overflows.
@@ -220,6 +223,7 @@ impl Rows {
             (with_pair self.old.pairs row (take HALF ids))) }
         ensures unused { leaf_in self.old.pairs result ≡ None }
         ensures spare { self.new.spare + 1 ≡ self.old.spare }
+        ensures room { self.new.room ≡ self.old.room }
         ensures top { self.new.top ≡ self.old.top }
     {
         let new = self.counts.insert(Some(row), HALF);
@@ -235,6 +239,7 @@ impl Rows {
         ensures spare { self.new.spare ≡ self.old.spare }
         ensures top { self.new.top ≡ self.old.top }
         ensures ok { OnOk result (0 < self.new.room) }
+        ensures needed { OnErr result (self.old.room ≡ 0) }
     {
         self.counts.grow()
     }
@@ -250,6 +255,7 @@ impl Rows {
         ensures grows { self.old.top ≤ self.new.top }
         ensures most { self.new.top ≤ max self.old.top count }
         ensures ok { OnOk result (count ≤ self.new.top) }
+        ensures needed { OnErr result (self.old.top < count) }
     {
         if count <= self.ready {
             return Ok(());
@@ -269,6 +275,7 @@ impl Rows {
         requires cells { self.old.next < self.old.top }
         ensures pairs { self.new.pairs ≡ self.old.pairs }
         ensures spare { self.new.spare ≡ self.old.spare + 1 }
+        ensures room { self.new.room + 1 ≡ self.old.room }
         ensures top { self.new.top ≡ self.old.top }
     {
         self.counts.add_place();
@@ -278,6 +285,7 @@ impl Rows {
     /// allocate.
     pub(crate) fn clone(&self) -> Result<Self, AllocError>
         ensures same { IfOk result (λ copy. copy.pairs ≡ self.now.pairs) }
+        ensures spare { IfOk result (λ copy. copy.spare ≡ self.now.spare) }
         ensures top { IfOk result (λ copy. copy.top ≡ self.now.top) }
     {
         Ok(Rows {

@@ -7,4 +7,4 @@ pub invariant_of-result : goal.invariant_of-result
 invariant_of-result c = same_links (slot_at c.self.inside.records.store) (slot_at c.in_ok-clone.field-0.store) c.in_ok-clone.ensures.cloned (used_count c.self.inside.records.store) (used_count c.in_ok-clone.field-0.store) c.in_ok-clone.ensures.used c.self.inside.first c.self.inside.last c.self.invariant
 
 pub returns : goal.returns
-returns c = record { top = c.in_ok-clone.ensures.top ∙ ap (λ v. v.top) c.self.view_is; same = same_pairs (slot_at c.self.inside.records.store) (slot_at c.in_ok-clone.field-0.store) c.in_ok-clone.ensures.cloned (used_count c.self.inside.records.store) (used_count c.in_ok-clone.field-0.store) c.in_ok-clone.ensures.used c.self.inside.first ∙ ap (λ v. v.pairs) c.self.view_is }
+returns c = record { spare = c.in_ok-clone.ensures.spare ∙ ap (λ v. v.spare) c.self.view_is; top = c.in_ok-clone.ensures.top ∙ ap (λ v. v.top) c.self.view_is; same = same_pairs (slot_at c.self.inside.records.store) (slot_at c.in_ok-clone.field-0.store) c.in_ok-clone.ensures.cloned (used_count c.self.inside.records.store) (used_count c.in_ok-clone.field-0.store) c.in_ok-clone.ensures.used c.self.inside.first ∙ ap (λ v. v.pairs) c.self.view_is }

@@ -1,4 +1,4 @@
-use Rattle.std.proofs.Common.{◌≡◌, ◌-◌, ◌∷◌, ◌++◌, [], length, map, Some, sym, ap, ◌∙◌}
+use Rattle.std.proofs.Common.{◌≡◌, ◌-◌, ◌∷◌, ◌++◌, [], length, map, Some, sym, ap, ◌∙◌, arith}
 use Rattle.art_rows.specs.Rows.{position_at, nth}
 use Rattle.art_rows.proofs.FilingLemmas.{seen, none_there}
 use Rattle.art_rows.proofs.Ends.{last_none, last_has, last_place, last_taken}
@@ -9,7 +9,7 @@ returns-in_default g c =
     let ps = c.args.self.now.pairs in
     let f = seen c.self.inside c.self.view_is c.self.invariant in
     let none = last_none ps (none_there f _ (ap (λ t. position_at t.rows (length ps - 1)) c.self.view_is ∙ sym c.last_position.ensures ∙ c.in_default.is)) in
-    record { takes = (none, none) }
+    record { takes = (none, none); room = omega arith }
 
 pub remove_at-requires-clause-has : goal.remove_at-requires-clause-has
 remove_at-requires-clause-has g c = let ps = c.args.self.now.pairs in last_has ps c.number-id.result (c.number-id.ensures (length ps - 1) (sym c.last_position.ensures ∙ c.in-Some.is))
@@ -26,4 +26,4 @@ returns g c =
     let ps = c.args.self.now.pairs in
     let f = seen c.self.inside c.self.view_is c.self.invariant in
     let there : nth (map (λ p. p.0) ps) (length ps - 1) ≡ Some c.number-id.result = c.number-id.ensures (length ps - 1) (sym c.last_position.ensures ∙ c.in-Some.is) in
-    record { takes = (c.number-id.result, last_taken ps c.number-id.result c.remove_at.result f.distinct there c.remove_at.ensures.value ∙ ap (λ l. l ++ (c.number-id.result, c.remove_at.result) ∷ []) (sym c.remove_at.ensures.rest)) }
+    record { takes = (c.number-id.result, last_taken ps c.number-id.result c.remove_at.result f.distinct there c.remove_at.ensures.value ∙ ap (λ l. l ++ (c.number-id.result, c.remove_at.result) ∷ []) (sym c.remove_at.ensures.rest)); room = c.remove_at.ensures.room }

@@ -48,7 +48,7 @@ returns-clause-rows c =
     let p = from_now c.self.invariant c.self.view_is c.args.row n c.read-count.ensures (λ ids. c.args.place ≤ length ids) c.requires.place in
     let l = row_length c.self.invariant c.self.view_is c.args.row n c.read-count.ensures in
     to_now c.self.invariant c.self.view_is c.args.row n c.read-count.ensures _
-    (insert_now c.self.invariant c.self.view_is c.args.row n c.read-count.ensures c.move_down.new.self c.args.place c.new-cell.result (omega arith) (omega arith) (c.new-cell.ensures ∙ c.read.ensures) c.move_down.ensures.first c.move_down.ensures.others)
+    (insert_now c.self.invariant c.self.view_is c.args.row n c.read-count.ensures c.move_down.new.self c.args.place c.new-cell.result (omega arith) (omega arith) (c.new-cell.ensures ∙ c.read.ensures) c.move_down.ensures.moved c.move_down.ensures.others)
 
 pub returns-clause-fresh : goal.returns-clause-fresh
 returns-clause-fresh c =

@@ -54,7 +54,7 @@ returns-else-count-eq1-clause-more c =
     let n = c.read-count.result.now in
     let p = from_now c.self.invariant c.self.view_is c.args.row n c.read-count.ensures (λ ids. c.args.place < length ids) c.requires.within in
     let l = row_length c.self.invariant c.self.view_is c.args.row n c.read-count.ensures in
-    to_now c.self.invariant c.self.view_is c.args.row n c.read-count.ensures _ (λ ne. remove_now c.self.invariant c.self.view_is c.args.row n c.read-count.ensures c.move_up.new.self c.args.place (omega arith) c.move_up.ensures.first c.move_up.ensures.others)
+    to_now c.self.invariant c.self.view_is c.args.row n c.read-count.ensures _ (λ ne. remove_now c.self.invariant c.self.view_is c.args.row n c.read-count.ensures c.move_up.new.self c.args.place (omega arith) c.move_up.ensures.moved c.move_up.ensures.others)
 
 pub returns-else-count-eq1-clause-gains : goal.returns-else-count-eq1-clause-gains
 returns-else-count-eq1-clause-gains c =
