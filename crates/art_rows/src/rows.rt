@@ -318,7 +318,7 @@ fn row_at(cells: &Words, row: usize, count: usize) -> Row<'_>
     requires small { (n : ℕ) → 0 < times (block_at cells.now row) n → n < 2 ^ 61 }
     ensures { result ≡ take count (block_at cells.now row) }
 {
-    let (low, high) = cells.halves(row, 0, ROW);
+    let (low, high) = cells.halves(row);
     Row::new(low, high, count)
 }
 

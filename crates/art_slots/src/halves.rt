@@ -1,5 +1,5 @@
 //! A list of numbers of 32 bits, in blocks.
-ghost use Rattle.std.specs.Prelude.{◌≡◌, ◌≢◌, ℕ, ◌+◌, ◌-◌, ◌*◌, ◌^◌, ◌<◌, ◌≤◌, max, true, false, [], ◌++◌, length, take, drop, replicate, slice_index_or, slice_set, OnOk, IfOk, OnErr};
+ghost use Rattle.std.specs.Prelude.{◌≡◌, ◌≢◌, ℕ, ◌+◌, ◌-◌, ◌*◌, ◌^◌, ◌<◌, ◌≤◌, max, true, false, [], ◌++◌, length, replicate, slice_index_or, slice_set, OnOk, IfOk, OnErr};
 ghost use Rattle.art_slots.specs.Words.{block_at, moved_down, moved_up};
 ghost use Rattle.art_slots.specs.Halves.{AddsZeros};
 
@@ -98,15 +98,13 @@ impl Halves {
         block < self.blocks.len()
     }
 
-    /// Returns the numbers of a block at the places from `from` up to `to`.
+    /// Returns the numbers of a block.
     #[inline(always)]
-    pub fn part(&self, block: usize, from: usize, to: usize) -> &[u32]
-        requires block { 64 * block + 64 ≤ length self.now }
-        requires order { from ≤ to }
-        requires within { to ≤ 64 }
-        ensures { result.now ≡ drop from (take to (block_at self.now block)) }
+    pub fn block(&self, block: usize) -> &[u32]
+        requires { 64 * block + 64 ≤ length self.now }
+        ensures { result.now ≡ block_at self.now block }
     {
-        &self.blocks.read(block).halves[from..to]
+        &self.blocks.read(block).halves
     }
 
     /// Moves the number at the place `from` of a block to the earlier place `to`. Each number

@@ -194,13 +194,13 @@ fn numbers_moved_in_a_block(rt: HostRuntime) {
 fn halves_of_a_block(rt: HostRuntime) {
     let words = mixed_list(&rt, rt.alloc());
     assert!(rt; words.len() == 192);
-    let (low, high) = words.halves(1, 2, 5);
-    assert!(rt; low.len() == 3 && low[0] == 66 && low[1] == 67 && low[2] == 68);
-    assert!(rt; high.len() == 3 && high[0] == 66 << 8 && high[1] == 67 << 8 && high[2] == 68 << 8);
-    let (low, high) = words.halves(2, 0, 64);
+    let (low, high) = words.halves(1);
+    assert!(rt; low.len() == 64 && low[0] == 64 && low[2] == 66 && low[63] == 127);
+    assert!(rt;
+        high.len() == 64 && high[0] == 64 << 8 && high[2] == 66 << 8 && high[63] == 127 << 8
+    );
+    let (low, high) = words.halves(2);
     assert!(rt; low.len() == 64 && low[0] == 128 && low[63] == 191 && high.len() == 0);
-    let (low, high) = words.halves(0, 7, 7);
-    assert!(rt; low.len() == 0 && high.len() == 0);
 }
 
 #[test]

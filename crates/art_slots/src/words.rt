@@ -1,5 +1,5 @@
 //! A list of numbers that are less than its length.
-ghost use Rattle.std.specs.Prelude.{◌≡◌, ◌≢◌, ◌+◌, ◌*◌, ◌^◌, ◌<◌, ◌≤◌, ℕ, [], length, max, take, drop, slice_index_or, slice_set, OnOk, OnErr, IfOk};
+ghost use Rattle.std.specs.Prelude.{◌≡◌, ◌≢◌, ◌+◌, ◌*◌, ◌^◌, ◌<◌, ◌≤◌, ℕ, [], length, max, take, slice_index_or, slice_set, OnOk, OnErr, IfOk};
 ghost use Rattle.art_slots.specs.Words.{numbers, block_at, times, moved_down, moved_up};
 
 use crate::halves::{BLOCK, Halves};
@@ -85,19 +85,16 @@ impl Words {
         }
     }
 
-    /// Returns the low and the high halves of the numbers of a block of 64 at the places from `from`
-    /// up to `to`. The second slice is empty if the list has no high halves.
+    /// Returns the low and the high halves of a block of 64 numbers. The second slice is empty if
+    /// the block has no high halves.
     #[inline(always)]
-    pub fn halves(&self, block: usize, from: usize, to: usize) -> (&[u32], &[u32])
-        requires block { 64 * block + 64 ≤ length self.now }
-        requires order { from ≤ to }
-        requires within { to ≤ 64 }
-        ensures { numbers result.0.now result.1.now
-            ≡ drop from (take to (block_at self.now block)) }
+    pub fn halves(&self, block: usize) -> (&[u32], &[u32])
+        requires { 64 * block + 64 ≤ length self.now }
+        ensures { numbers result.0.now result.1.now ≡ block_at self.now block }
     {
-        let low = self.low.part(block, from, to);
+        let low = self.low.block(block);
         if self.high.has_block(block) {
-            (low, self.high.part(block, from, to))
+            (low, self.high.block(block))
         } else {
             (low, &[])
         }
