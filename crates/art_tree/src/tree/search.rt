@@ -108,6 +108,7 @@ impl<K: AsBytes, V, const PREFIX_LEN: usize> Tree<K, V, PREFIX_LEN> {
 
 /// Returns the only pair whose key may be a prefix of these bytes, and its leaf, or `None` if no
 /// key is.
+#[inline(always)]
 fn pair_below<'a, K: AsBytes, V, const P: usize>(
     leaves: &'a Leaves<K, V>,
     nodes: &Nodes<P>,
@@ -132,6 +133,7 @@ fn pair_below<'a, K: AsBytes, V, const P: usize>(
 }
 
 /// Returns the only leaf whose key may be a prefix of the query, or `None` if no key is.
+#[inline(always)]
 fn leaf_below<const P: usize>(
     nodes: &Nodes<P>,
     root: &Child,
