@@ -1,10 +1,10 @@
 -- How a change of one leaf changes the filing.
-use Rattle.std.proofs.Common.{◌≡◌, ◌≢◌, ℕ, suc, ◌+◌, ◌*◌, ◌<◌, ◌≤◌, List, [], ◌∷◌, ◌++◌, length, map, take, drop, refl, sym, ap, subst, ◌∙◌, Option, Some, None, true, false, inl, inr, arith}
+use Rattle.std.proofs.Common.{◌≡◌, ◌≢◌, ℕ, suc, ◌+◌, ◌*◌, ◌≤◌, List, [], ◌∷◌, ◌++◌, length, map, take, drop, refl, sym, ap, subst, ◌∙◌, Option, Some, None, true, false, inl, inr, arith}
 use Rattle.std.specs.Prelude.{IfSome}
 use Rattle.std.proofs.lemmas.Bool.Decides.{eqb_tells}
 use Rattle.std.proofs.lemmas.List.{length-set}
 use Rattle.art_rows.specs.Numbers.{Numbered, Numbers, leaf_in, Has, with_pair_after, without_number, with_pair, Lacks}
-use Rattle.art_rows.specs.Rows.{among, nth, numbers, position_at, IsSpot, row_end}
+use Rattle.art_rows.specs.Rows.{among, numbers, position_at, IsSpot, row_end}
 use Rattle.art_rows.specs.Leaves.{with_value, index_of, spot_index}
 use Rattle.art_rows.specs.Filing.{filed, Files}
 use Rattle.art_slots.specs.Store.{Store, slot_at, used_count, with_record}
@@ -13,7 +13,7 @@ use Rattle.art_rows.specs.declared.row.Position.{Position}
 use Rattle.art_slots.proofs.CallerLemmas.{with-now, with-others, with-count}
 use Rattle.art_rows.proofs.NumbersLemmas.{eqb_same, leaf_in-without_number, AreDistinct-without_number, length-without_number, leaf_in-with_pair, leaf_in-with_now, numbers-with_pair, same_distinct, same_length, Lacks-from_leaf_in, AreDistinct-with_pair_after, leaf_in-with_pair_after, length-with_pair_after, Has-tail}
 use Rattle.art_rows.proofs.RowChanges.{PutsIn, puts_in, puts_row, spot-row, TakesOut, takes_one, takes_more, numbers-without}
-use Rattle.art_rows.proofs.RowsLemmas.{found, standing, standing-row, nth-place, among-numbers}
+use Rattle.art_rows.proofs.RowsLemmas.{standing, standing-row}
 use Rattle.art_rows.proofs.FilingLemmas.{record_is, in_rows}
 
 -- the numbers, after a pair was placed

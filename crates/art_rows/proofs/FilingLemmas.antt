@@ -1,8 +1,7 @@
 -- What holds of leaf records and the rows in which they are filed.
 use Rattle.std.proofs.Common.{◌≡◌, ℕ, suc, ◌+◌, ◌-◌, ◌<◌, ◌≤◌, List, [], ◌∷◌, length, map, refl, sym, ap, subst, ◌∙◌, Option, Some, None, IsSome, true, false, eqb, inl, inr, arith}
 use Rattle.std.specs.Prelude.{option_map, IfSome}
-use Rattle.std.proofs.lemmas.List.{length-map, get_or_past}
-use Rattle.std.proofs.lemmas.Bool.Decides.{leb_tells}
+use Rattle.std.proofs.lemmas.List.{length-map}
 use Rattle.art_rows.specs.Numbers.{Numbered, leaf_in, Has, last_number, number_after, number_before, Lacks, AreDistinct}
 use Rattle.art_rows.specs.Rows.{among, place_in, nth, numbers, row_with, position_at, start_of}
 use Rattle.art_rows.specs.Leaves.{Leaves, index_of}

@@ -1,11 +1,11 @@
 -- How a change of one row changes the rows.
-use Rattle.std.proofs.Common.{◌≡◌, ◌≢◌, ℕ, zero, suc, ◌+◌, ◌-◌, ◌<◌, ◌≤◌, List, [], ◌∷◌, ◌++◌, length, map, take, drop, refl, sym, ap, subst, ◌∙◌, append_assoc, Option, Some, None, Bool, true, false, cond, eqb, inl, inr, arith}
+use Rattle.std.proofs.Common.{◌≡◌, ◌≢◌, ℕ, zero, suc, ◌+◌, ◌-◌, ◌<◌, ◌≤◌, List, [], ◌∷◌, ◌++◌, length, map, take, drop, refl, sym, ap, subst, ◌∙◌, append_assoc, Option, Some, None, true, false, inl, inr, arith}
 use Rattle.std.specs.Prelude.{IfSome, IfNone}
 use Rattle.std.proofs.lemmas.Bool.Decides.{eqb_tells}
 use Rattle.std.proofs.lemmas.List.{length-append, take-append-le, drop-append-le, length-take-le, length-drop, nil_from_length}
 use Rattle.std.proofs.Math.Seq.{take-append-add, drop-append-add}
 use Rattle.art_rows.specs.Numbers.{Numbered, leaf_in, Has, with_pair_after, without_number, with_pair, Lacks, AreDistinct}
-use Rattle.art_rows.specs.Rows.{among, place_in, nth, numbers, position_at, AreFilled, IsSpot, row_end}
+use Rattle.art_rows.specs.Rows.{place_in, numbers, position_at, AreFilled, IsSpot, row_end}
 use Rattle.art_rows.specs.declared.row.Position.{Position}
 use Rattle.art_rows.proofs.NumbersLemmas.{Has-tail, with_pair-split, without_number-split, same_distinct, numbers-with_pair, AreDistinct-without_number, distinct_parts, leaf_in-split, AreDistinct-with_pair_after, Lacks-from_leaf_in}
 use Rattle.art_rows.proofs.RowsLemmas.{numbers-append, AreFilled-parts, AreFilled-append, Standing, standing, position-first, standing-numbers, standing-lacks}

@@ -1,4 +1,4 @@
-use Rattle.std.proofs.Common.{◌≡◌, ◌-◌, ◌<◌, Some, sym, ap, ◌∙◌}
+use Rattle.std.proofs.Common.{◌≡◌, ◌-◌, ◌<◌, Some, sym, ◌∙◌}
 use Rattle.art_rows.specs.Numbers.{leaf_in, number_before}
 use Rattle.art_rows.specs.Rows.{nth}
 use Rattle.art_rows.proofs.FilingLemmas.{seen, before_there, if_some}

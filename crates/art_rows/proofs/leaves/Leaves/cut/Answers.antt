@@ -1,8 +1,6 @@
-use Rattle.std.proofs.Common.{◌≡◌, ℕ, List, length, take, drop, Option, Some, None, IsSome, false, true, refl, sym, ap, ◌∙◌, arith}
-use Rattle.std.specs.Prelude.{IfSome}
-use Rattle.art_slots.specs.Store.{slot_at, used_count}
+use Rattle.std.proofs.Common.{ap, arith}
 use Rattle.art_rows.proofs.FilingLemmas.{seen, all_filed, pairs_are}
-use Rattle.art_rows.proofs.Cuts.{files_cut, cut_row}
+use Rattle.art_rows.proofs.Cuts.{cut_row}
 use Rattle.art_rows.proofs.leaves.Leaves.cut.Goals as goal
 
 pub cut-requires-clause-full : goal.cut-requires-clause-full

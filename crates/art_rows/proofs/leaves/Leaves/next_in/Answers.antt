@@ -1,8 +1,7 @@
-use Rattle.std.proofs.Common.{◌≡◌, ◌+◌, ◌<◌, ℕ, List, [], ◌∷◌, length, Option, Some, None, refl, sym, ap, subst, ◌∙◌, arith}
-use Rattle.art_rows.specs.Leaves.{index_of}
+use Rattle.std.proofs.Common.{◌≡◌, length, Some, refl, sym, ap, arith}
 use Rattle.art_rows.specs.Numbers.{leaf_in}
-use Rattle.art_rows.specs.Rows.{position_at, start_of}
-use Rattle.art_rows.proofs.FilingLemmas.{seen, seen_rows, has_row_at, place_at}
+use Rattle.art_rows.specs.Rows.{start_of}
+use Rattle.art_rows.proofs.FilingLemmas.{seen_rows, has_row_at, place_at}
 use Rattle.art_rows.proofs.Runs.{following_step, following_there, next_there, unknown_after}
 use Rattle.art_rows.proofs.leaves.Leaves.next_in.Goals.{in-None, in-Some-run_after}
 use Rattle.art_rows.proofs.leaves.Leaves.next_in.Goals as goal

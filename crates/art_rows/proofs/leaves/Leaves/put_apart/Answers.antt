@@ -1,11 +1,10 @@
-use Rattle.std.proofs.Common.{◌≡◌, length, take, drop, Some, ap, sym, ◌∙◌, arith}
-use Rattle.art_rows.specs.Numbers.{with_pair_after, with_pair}
+use Rattle.std.proofs.Common.{◌≡◌, length, arith}
 use Rattle.art_rows.specs.Rows.{lengths}
 use Rattle.art_rows.proofs.FilingLemmas.{seen_rows}
-use Rattle.art_rows.proofs.RowChanges.{spot-row, spot-lacks}
+use Rattle.art_rows.proofs.RowChanges.{spot-row}
 use Rattle.art_rows.proofs.RowRoomLemmas.{room_less}
-use Rattle.art_rows.proofs.Rooms.{spot_has, spot_ids, spot_put, spare_full}
-use Rattle.art_rows.proofs.Cuts.{low_len, high_len, cut_apart, cut_turns, cut_low, cut_high, cut_below, cut_above}
+use Rattle.art_rows.proofs.Rooms.{spot_has, spot_ids, spare_full}
+use Rattle.art_rows.proofs.Cuts.{cut_at, low_len, high_len, cut_apart, cut_low, cut_high, cut_below, cut_above, cut_put}
 use Rattle.art_rows.proofs.leaves.Leaves.put_apart.Goals as goal
 
 pub cut-new-requires-clause-has : goal.cut-new-requires-clause-has
@@ -25,96 +24,51 @@ overflow_sub-upper g c = omega (arith, c.if-position-le-HALF.false)
 pub put-requires-clause-spot : goal.put-requires-clause-spot
 put-requires-clause-spot g c =
     let f = seen_rows c.self.inside c.self.view_is c.self.invariant in
-    let s = c.requires.spot in
-    let rows = c.args.self.now.rows in
-    let p = c.args.position in
-    let new = c.cut-new.result in
-    let now = c.cut-new.new.self.rows in
-    let lacks = (spot-lacks rows _ p s f.apart).0 in
-    let full = spot_ids s f.apart (λ ids. length ids ≡ 64) c.requires.full in
-    let cut = spot_ids s f.apart (λ ids. now ≡ with_pair_after (Some p.row) (new, drop 32 ids) (with_pair rows p.row (take 32 ids))) c.cut-new.ensures.rows in
-    rw c.cut-new.ensures.pairs (cut_below rows s.before s.after p.row new s.ids s.is lacks full now cut _ p.place s.index c.if-position-le-HALF.true)
+    let x = cut_at c.requires.spot f.apart c.requires.full c.cut-new.result c.cut-new.new.self.rows c.cut-new.ensures.rows in
+    rw c.cut-new.ensures.pairs (cut_below x _ c.args.position.place c.requires.spot.index c.if-position-le-HALF.true)
 
 pub put-requires-clause-room : goal.put-requires-clause-room
 put-requires-clause-room g c =
     let f = seen_rows c.self.inside c.self.view_is c.self.invariant in
-    let s = c.requires.spot in
-    let rows = c.args.self.now.rows in
-    let p = c.args.position in
-    let new = c.cut-new.result in
-    let now = c.cut-new.new.self.rows in
-    let lacks = (spot-lacks rows _ p s f.apart).0 in
-    let full = spot_ids s f.apart (λ ids. length ids ≡ 64) c.requires.full in
-    let cut = spot_ids s f.apart (λ ids. now ≡ with_pair_after (Some p.row) (new, drop 32 ids) (with_pair rows p.row (take 32 ids))) c.cut-new.ensures.rows in
-    let l = low_len rows s.before s.after p.row new s.ids s.is lacks full now cut in
-    rw (cut_low rows s.before s.after p.row new s.ids s.is lacks full now cut) (omega arith)
+    let x = cut_at c.requires.spot f.apart c.requires.full c.cut-new.result c.cut-new.new.self.rows c.cut-new.ensures.rows in
+    let l = low_len x in
+    rw (cut_low x) (omega arith)
 
 pub returns-then-position-le-HALF-clause-room : goal.returns-then-position-le-HALF-clause-room
 returns-then-position-le-HALF-clause-room g c =
     let f = seen_rows c.self.inside c.self.view_is c.self.invariant in
-    let s = c.requires.spot in
-    let rows = c.args.self.now.rows in
-    let p = c.args.position in
-    let new = c.cut-new.result in
-    let now = c.cut-new.new.self.rows in
-    let lacks = (spot-lacks rows _ p s f.apart).0 in
-    let full = spot_ids s f.apart (λ ids. length ids ≡ 64) c.requires.full in
-    let cut = spot_ids s f.apart (λ ids. now ≡ with_pair_after (Some p.row) (new, drop 32 ids) (with_pair rows p.row (take 32 ids))) c.cut-new.ensures.rows in
+    let x = cut_at c.requires.spot f.apart c.requires.full c.cut-new.result c.cut-new.new.self.rows c.cut-new.ensures.rows in
     let o = c.args.self.now in
     let n = c.put.new.self in
     let q = c.cut-new.ensures.spare in
     let e = c.put.ensures.spare_rows in
-    let apart = cut_apart rows s.before s.after p.row new s.ids s.is lacks full now cut c.cut-new.ensures.unused f.apart in
-    let t = rw q at (cut_turns rows s.before s.after p.row new s.ids s.is lacks full now cut c.cut-new.new.self.spare_rows) in
-    let i = cut_below rows s.before s.after p.row new s.ids s.is lacks full now cut _ p.place s.index c.if-position-le-HALF.true in
-    let u = spot_put i apart n.rows c.put.result c.cut-new.new.self.spare_rows c.put.ensures.rows in
-    room_less (lengths o.rows) (lengths n.rows) o.spare_rows n.spare_rows (omega arith) (rw e (omega arith))
+    let i = cut_below x _ c.args.position.place c.requires.spot.index c.if-position-le-HALF.true in
+    let u = cut_put x i (cut_apart x c.cut-new.ensures.unused f.apart) n.rows c.put.result o.spare_rows c.cut-new.new.self.spare_rows q c.put.ensures.rows in
+    room_less (lengths o.rows) (lengths n.rows) o.spare_rows n.spare_rows (omega arith) (rw e u)
 
 pub put-requires-2-clause-spot : goal.put-requires-2-clause-spot
 put-requires-2-clause-spot g c =
     let f = seen_rows c.self.inside c.self.view_is c.self.invariant in
+    let x = cut_at c.requires.spot f.apart c.requires.full c.cut-new.result c.cut-new.new.self.rows c.cut-new.ensures.rows in
     let s = c.requires.spot in
-    let rows = c.args.self.now.rows in
-    let p = c.args.position in
-    let new = c.cut-new.result in
-    let now = c.cut-new.new.self.rows in
-    let lacks = (spot-lacks rows _ p s f.apart).0 in
-    let full = spot_ids s f.apart (λ ids. length ids ≡ 64) c.requires.full in
-    let cut = spot_ids s f.apart (λ ids. now ≡ with_pair_after (Some p.row) (new, drop 32 ids) (with_pair rows p.row (take 32 ids))) c.cut-new.ensures.rows in
-    rw c.cut-new.ensures.pairs (cut_above rows s.before s.after p.row new s.ids s.is lacks full now cut _ p.place s.index (omega (arith, c.if-position-le-HALF.false)) s.within)
+    rw c.cut-new.ensures.pairs (cut_above x _ c.args.position.place s.index (omega (arith, c.if-position-le-HALF.false)) s.within)
 
 pub put-requires-2-clause-room : goal.put-requires-2-clause-room
 put-requires-2-clause-room g c =
     let f = seen_rows c.self.inside c.self.view_is c.self.invariant in
-    let s = c.requires.spot in
-    let rows = c.args.self.now.rows in
-    let p = c.args.position in
-    let new = c.cut-new.result in
-    let now = c.cut-new.new.self.rows in
-    let lacks = (spot-lacks rows _ p s f.apart).0 in
-    let full = spot_ids s f.apart (λ ids. length ids ≡ 64) c.requires.full in
-    let cut = spot_ids s f.apart (λ ids. now ≡ with_pair_after (Some p.row) (new, drop 32 ids) (with_pair rows p.row (take 32 ids))) c.cut-new.ensures.rows in
-    let apart = cut_apart rows s.before s.after p.row new s.ids s.is lacks full now cut c.cut-new.ensures.unused f.apart in
-    let l = high_len rows s.before s.after p.row new s.ids s.is lacks full now cut in
-    rw (cut_high rows s.before s.after p.row new s.ids s.is lacks full now cut apart) (omega arith)
+    let x = cut_at c.requires.spot f.apart c.requires.full c.cut-new.result c.cut-new.new.self.rows c.cut-new.ensures.rows in
+    let l = high_len x in
+    rw (cut_high x (cut_apart x c.cut-new.ensures.unused f.apart)) (omega arith)
 
 pub returns-clause-room : goal.returns-clause-room
 returns-clause-room g c =
     let f = seen_rows c.self.inside c.self.view_is c.self.invariant in
+    let x = cut_at c.requires.spot f.apart c.requires.full c.cut-new.result c.cut-new.new.self.rows c.cut-new.ensures.rows in
     let s = c.requires.spot in
-    let rows = c.args.self.now.rows in
-    let p = c.args.position in
-    let new = c.cut-new.result in
-    let now = c.cut-new.new.self.rows in
-    let lacks = (spot-lacks rows _ p s f.apart).0 in
-    let full = spot_ids s f.apart (λ ids. length ids ≡ 64) c.requires.full in
-    let cut = spot_ids s f.apart (λ ids. now ≡ with_pair_after (Some p.row) (new, drop 32 ids) (with_pair rows p.row (take 32 ids))) c.cut-new.ensures.rows in
     let o = c.args.self.now in
     let n = c.put-2.new.self in
     let q = c.cut-new.ensures.spare in
     let e = c.put-2.ensures.spare_rows in
-    let apart = cut_apart rows s.before s.after p.row new s.ids s.is lacks full now cut c.cut-new.ensures.unused f.apart in
-    let t = rw q at (cut_turns rows s.before s.after p.row new s.ids s.is lacks full now cut c.cut-new.new.self.spare_rows) in
-    let i = cut_above rows s.before s.after p.row new s.ids s.is lacks full now cut _ p.place s.index (omega (arith, c.if-position-le-HALF.false)) s.within in
-    let u = spot_put i apart n.rows c.put-2.result c.cut-new.new.self.spare_rows c.put-2.ensures.rows in
-    room_less (lengths o.rows) (lengths n.rows) o.spare_rows n.spare_rows (omega arith) (rw e (omega arith))
+    let i = cut_above x _ c.args.position.place s.index (omega (arith, c.if-position-le-HALF.false)) s.within in
+    let u = cut_put x i (cut_apart x c.cut-new.ensures.unused f.apart) n.rows c.put-2.result o.spare_rows c.cut-new.new.self.spare_rows q c.put-2.ensures.rows in
+    room_less (lengths o.rows) (lengths n.rows) o.spare_rows n.spare_rows (omega arith) (rw e u)

@@ -1,4 +1,4 @@
-use Rattle.std.proofs.Common.{◌≡◌, ◌+◌, sym, ap, ◌∙◌, arith}
+use Rattle.std.proofs.Common.{sym, ap, ◌∙◌, arith}
 use Rattle.art_rows.specs.Rows.{position_at}
 use Rattle.art_rows.specs.Leaves.{index_of}
 use Rattle.art_rows.proofs.FilingLemmas.{seen, place_below}
