@@ -14,7 +14,8 @@ use Rattle.art_rows.proofs.RowChanges.{spot-lacks}
 use Rattle.art_rows.proofs.Rooms.{lengths_at, parts, shown, spot_ids, spot_put}
 use Rattle.art_rows.proofs.RowRoomLemmas.{turns_cut}
 
--- a full row is cut in half: what is before the row, its numbers, what is after it, and the rows now
+-- a full row is cut in half: what is before the row, its numbers, what is after it, and the rows
+-- now
 pub record IsCut (rows now : List (Numbered (List ℕ))) (row new : ℕ) : Type 0 where
   pub before : List (Numbered (List ℕ))
   pub ids : List ℕ

@@ -347,8 +347,8 @@ impl<K, V> Leaves<K, V> {
         }
     }
 
-    /// Returns the rest of the row of a leaf, and the next row. Returns neither if the ids have high
-    /// halves.
+    /// Returns the rest of the row of a leaf, and the next row. Returns neither if the ids have
+    /// high halves.
     pub fn following(&self, id: LeafId) -> Following<'_>
         requires { Has self.now.pairs id }
         ensures { StandsAfter self.now.pairs self.now.rows id result }
@@ -399,8 +399,8 @@ impl<K, V> Leaves<K, V> {
         Some(next)
     }
 
-    /// Returns the row after another. The result goes in registers, so that no step of a walk clears
-    /// memory for it.
+    /// Returns the row after another. The result goes in registers, so that no step of a walk
+    /// clears memory for it.
     #[cold]
     #[inline(never)]
     fn row_after(&self, row: usize) -> Option<usize>

@@ -35,8 +35,8 @@ impl Position {
     }
 }
 
-/// The numbers of the 64 cells of a row, as low and high halves. The cells in use come first, in the
-/// order of their keys. A contract sees the numbers of the cells in use.
+/// The numbers of the 64 cells of a row, as low and high halves. The cells in use come first, in
+/// the order of their keys. A contract sees the numbers of the cells in use.
 #[derive(Drop)]
 pub(crate) struct Row<'a> {
     pub(crate) low: &'a [u32],
@@ -199,8 +199,8 @@ fn number_at(low: &[u32], high: &[u32], place: usize) -> usize
     }
 }
 
-/// Returns the place of a number in a list with high halves, or the length of the list if the number
-/// is not in it.
+/// Returns the place of a number in a list with high halves, or the length of the list if the
+/// number is not in it.
 #[cold]
 #[inline(never)]
 fn place_of_both(low: &[u32], high: &[u32], number: usize) -> usize

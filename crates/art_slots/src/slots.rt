@@ -78,7 +78,12 @@ impl<T> Model for Slots<T> {
 
     ghost use Rattle.art_slots.specs.Chain.{used_of, HasSpares, room_of};
 
-    ghost view = { λ s. record { store = record { slots = map used_of s.slab.slots; spare = s.spare }; room = room_of (slab_len s.slab) s.slab.capacity; top = s.top; next = s.slab.vacant_key } };
+    ghost view = { λ s. record {
+      store = record { slots = map used_of s.slab.slots; spare = s.spare };
+      room = room_of (slab_len s.slab) s.slab.capacity;
+      top = s.top;
+      next = s.slab.vacant_key;
+    } };
 
     ghost invariant = { λ s. HasSpares s.slab.slots s.free s.spare s.top };
 }

@@ -8,8 +8,6 @@
 
 mod lists;
 mod pair_list;
-#[cfg(test)]
-mod tests;
 mod tree;
 mod walk;
 

@@ -1,4 +1,5 @@
--- A closure is called on the pair that a cursor has passed, which is then kept as written or removed.
+-- A closure is called on the pair that a cursor has passed, which is then kept as written or
+-- removed.
 use Rattle.std.proofs.Common.{◌≡◌, ℕ, Bool, true, false, List, [], ◌∷◌, ◌++◌, Some, refl, sym, ap, ◌∙◌, subst, append_assoc}
 use Rattle.std.proofs.lemmas.List.{map-append}
 use Rattle.std.specs.Borrow.{Bor, MutBor}

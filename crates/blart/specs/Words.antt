@@ -33,7 +33,8 @@ pub use Rattle.blart_set.specs.Reserved.{reserved_set, held_elements, elements_l
 pub use Rattle.blart_keys.specs.Walks.{TakesFirst, TakesLast, Walked}
 -- on which items a closure was called, and which items it kept
 pub use Rattle.blart_keys.specs.Walks.{Asked, picked, Retains, AsksPair}
--- a walk that lends: the reference to its map, the pair that it lent last, what it has left, and what the map will be
+-- a walk that lends: the reference to its map, the pair that it lent last, what it has left, and
+-- what the map will be
 pub use Rattle.blart_map.specs.LendingWalk.{lending_map, lending_last, lending_left, LendsWhere}
 pub use Rattle.blart_map.specs.CountedWalk.{counted_map, counted_last, counted_left, LendsAll}
 pub use Rattle.blart_map.specs.TakeWalk.{take_map, take_undecided, take_left, LentFirst, LentLast, NoneLent}

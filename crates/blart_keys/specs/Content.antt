@@ -5,7 +5,8 @@ use Rattle.std.specs.declared.ops.Bound.{Bound}
 use Rattle.blart_keys.specs.Bytes.{begins, related, less, conflicts}
 use Rattle.blart_keys.specs.Bounds.{is_from_start, is_up_to_end}
 
--- Items of any type, each with its bytes: keys, pairs of a key and a value, and pairs under a number.
+-- Items of any type, each with its bytes: keys, pairs of a key and a value, and pairs under a
+-- number.
 module _ {X : Type 0} (bytes : X → List ℕ) where
   -- each item's bytes are less than those of each later one
   abbrev pub Ascends : List X → Type 0

@@ -1,4 +1,5 @@
--- What a map has at some bytes, as its users cite it. `pair_at`, `pair_at_front` and `overlaps` stay closed in their proofs.
+-- What a map has at some bytes, as its users cite it. `pair_at`, `pair_at_front` and `overlaps`
+-- stay closed in their proofs.
 use Rattle.std.specs.Prelude.{◌≡◌, ◌≢◌, ℕ, ◌^◌, ◌<◌, Bool, true, false, List, length, map, Option, None, Some, option_map, is_some, bytes_eq, if◌then◌else◌}
 use denote.Ref.{Bor}
 use Rattle.blart_keys.specs.declared.calls.TryInsertError.{TryInsertError}

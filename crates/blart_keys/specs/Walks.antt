@@ -20,7 +20,8 @@ Walked whole fronts backs rest = whole ≡ fronts ++ (rest ++ reverse backs)
 
 -- `R f x b y g`: in the state f, called on x, a closure may return b, leave y for x and the state g
 module _ {F X : Type 0} (R : F → X → Bool → X → F → Type 0) where
-  -- The closure was called once on each item, in order, from the state f to g. It returned these answers and left these items
+  -- The closure was called once on each item, in order, from the state f to g. It returned these
+  -- answers and left these items
   abbrev pub Asked : List X → F → List Bool → List X → F → Type 0
   Asked [] f [] [] g = f ≡ g
   Asked (x ∷ items) f (b ∷ answers) (y ∷ left) g = (h : F) × R f x b y h × Asked items h answers left g

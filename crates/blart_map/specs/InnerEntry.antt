@@ -55,7 +55,8 @@ module _ {K V T : Type 0} {P : ℕ} {g : Ghosts K} where
   abbrev pub IsOverSet : InnerOccupiedEntry K V P T g → V → List (Numbered K V) → Type 0
   IsOverSet e w n = Overwrites g.bytes (pairs e.map.now) (e.key, w) (pairs n) × (value_at g.bytes (pairs n) (g.bytes e.key) ≡ Some w) × IsOver (pair_bytes g.bytes) (pairs e.map.now) (e.key, w) (pairs n)
 
-  -- the pairs, once the key has the value w under the last related pair's number, and no other related pair is left
+  -- the pairs, once the key has the value w under the last related pair's number, and no other
+  -- related pair is left
   abbrev pub over_leaf : InnerOccupiedEntry K V P T g → V → List (Numbered K V)
   over_leaf e w = with_pair (thinned g.bytes e.map.now (g.bytes e.key) e.last) e.last (e.key, w)
 

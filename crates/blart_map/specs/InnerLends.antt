@@ -1,4 +1,5 @@
--- What an inner entry, or its map, is once a returned `&mut` to a value ends, or if no entry is returned.
+-- What an inner entry, or its map, is once a returned `&mut` to a value ends, or if no entry is
+-- returned.
 use Rattle.std.specs.Prelude.{◌≡◌, [], Option}
 use Rattle.std.specs.Option.{ghost_name_of, OnSome, IfNone}
 use Rattle.std.specs.Borrow.{Fml, RattleType, MutBor, Lends, RestsIfNone, follows_so}
@@ -13,7 +14,9 @@ use Rattle.blart_map.specs.declared.occupied.OccupiedEntry.{OccupiedEntry}
 use Rattle.blart_map.specs.InnerEntry.{IsInnerWith, over_leaf}
 
 module _ (K V P T : RattleType) (g : Ghosts K.Denot) where
-  -- once the borrow r ends, the first related pair of the entry to which e leads has the last value written through r; at `None` the entry is unchanged. Its lifetime is the second of the signature
+  -- once the borrow r ends, the first related pair of the entry to which e leads has the last value
+  -- written through r; at `None` the entry is unchanged. Its lifetime is the second of the
+  -- signature
   abbrev pub inner_value_lends : MutBor (InnerOccupiedEntry K.Denot V.Denot (value_of P) T.Denot g) → Option (MutBor V.Denot) → Fml
   inner_value_lends e r =
       follows_so (inner.the_row (record { mir = named 1; lft = [] }) K V P T g) V e.ghost_name (ghost_name_of r)

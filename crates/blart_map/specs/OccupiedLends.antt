@@ -9,6 +9,7 @@ use Rattle.blart_map.specs.contracts.occupied.OccupiedEntry as occupied
 use Rattle.blart_map.specs.OccupiedEntry.{with_entry_value}
 
 module _ (K V P T : RattleType) (g : Ghosts K.Denot) where
-  -- once the borrow r ends, the entry to which o leads has the last value written through r. Its lifetime is the second of the signature
+  -- once the borrow r ends, the entry to which o leads has the last value written through r. Its
+  -- lifetime is the second of the signature
   abbrev pub entry_value_lends : MutBor (OccupiedEntry K.Denot V.Denot (value_of P) T.Denot g) → MutBor V.Denot → Fml
   entry_value_lends o r = follows (occupied.the_row (record { mir = named 1; lft = [] }) K V P T g) V o.ghost_name r.ghost_name (with_entry_value o.now)

@@ -24,7 +24,8 @@ Counts old new = (old.compares ≤ new.compares) × (new.compares + (length new.
 abbrev pub HasCompared : {K : Type 0} → Merge K → Merge K → Type 0
 HasCompared old new = 0 < length old.left → 0 < length old.right → old.compares < new.compares
 
--- One `next` of a merge with `rest` left. The first three are those of `MakesProgress`, as loops cite them
+-- One `next` of a merge with `rest` left. The first three are those of `MakesProgress`, as loops
+-- cite them
 pub record MergeProgresses {K A : Type 0} (rest : Merge K → List K) (s : Merge K) (r : Option A) (t : Merge K) : Type 0 where
   pub on : IsFinite (item_count rest s) → OnSome r (⊤ × IsFinite (item_count rest t) × (size (item_count rest t) < size (item_count rest s)))
   pub keeps : IfSome r (λ _. ⊤)

@@ -20,7 +20,8 @@ StartsUnder f (Excluded b) = begins f b ≡ true
 StartsUnder f Unbounded = ⊥
 
 module _ {K V : Type 0} (kb : K → List ℕ) where
-  -- S has the pair p, its bytes pass, and S has no better bytes that pass. If there is no p, S has no bytes that pass
+  -- S has the pair p, its bytes pass, and S has no better bytes that pass. If there is no p, S has
+  -- no bytes that pass
   abbrev pub IsBest : (List ℕ → Bool) → (List ℕ → List ℕ → Bool) → List (K × V) → Option (K × V) → Type 0
   IsBest test is_better S None = (r : List ℕ) → test r ≡ true → pair_at kb S r ≡ None
   IsBest test is_better S (Some p) = (pair_at kb S (kb p.0) ≡ Some p) × (test (kb p.0) ≡ true) × ((r : List ℕ) → test r ≡ true → is_better r (kb p.0) ≡ true → pair_at kb S r ≡ None)

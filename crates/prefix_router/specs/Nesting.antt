@@ -12,7 +12,8 @@ module _ {K V : Type 0} (kb : K → List ℕ) where
   unfoldable pub longest_front : List (K × V) → List ℕ → Option (K × V)
   longest_front S q = slice_get (fronts_of S q) (length (fronts_of S q) - 1)
 
-  -- S has the pair p, its bytes are a prefix of q, and S has no longer prefix of q. If there is no p, S has no prefix of q
+  -- S has the pair p, its bytes are a prefix of q, and S has no longer prefix of q. If there is no
+  -- p, S has no prefix of q
   abbrev pub IsLongestFront : List (K × V) → List ℕ → Option (K × V) → Type 0
   IsLongestFront S q None = (r : List ℕ) → begins r q ≡ true → pair_at kb S r ≡ None
   IsLongestFront S q (Some p) = (pair_at kb S (kb p.0) ≡ Some p) × (begins (kb p.0) q ≡ true) × ((r : List ℕ) → begins r q ≡ true → length (kb p.0) < length r → pair_at kb S r ≡ None)

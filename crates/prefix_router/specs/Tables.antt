@@ -6,7 +6,8 @@ use Rattle.blart_keys.specs.Bytes.{less}
 use Rattle.blart_keys.specs.KeyBytes.{vec_bytes}
 use Rattle.blart_map.specs.Content.{pairs}
 
--- what a contract sees of `Routes`: the mounts in byte order, and the number of tables in which they lie
+-- what a contract sees of `Routes`: the mounts in byte order, and the number of tables in which
+-- they lie
 pub record Nested (V : Type 0) : Type 0 where
   pub mounts : List (Vec ℕ Global × V)
   pub tables : ℕ

@@ -3,6 +3,7 @@
 mod ids;
 mod kinds;
 mod pair_lists;
+mod parts;
 mod steps;
 mod trees;
 

@@ -29,7 +29,11 @@ impl<C: Children, const P: usize> Model for Inner<C, P> {
 
     ghost coded = { node_code };
 
-    ghost view = { λ s. record { depth = s.depth; prefix = take s.used s.prefix; edges = C.edges s.edges } };
+    ghost view = { λ s. record {
+      depth = s.depth;
+      prefix = take s.used s.prefix;
+      edges = C.edges s.edges;
+    } };
 
     ghost invariant = { λ s. (s.used ≤ P) × (length s.prefix ≡ P) };
 }

@@ -45,7 +45,11 @@ impl<'a, const P: usize> Model for NodeRef<'a, P> {
 
     ghost use Rattle.art_kinds.specs.Refs.{edges_of};
 
-    ghost view = { λ r. record { depth = r.depth; prefix = take r.used r.prefix.now; edges = edges_of r.edges } };
+    ghost view = { λ r. record {
+      depth = r.depth;
+      prefix = take r.used r.prefix.now;
+      edges = edges_of r.edges;
+    } };
 
     ghost invariant = { λ r. (r.used ≤ P) × (length r.prefix.now ≡ P) × (P < 2 ^ 62) };
 }
@@ -189,9 +193,19 @@ impl<const P: usize> Model for Nodes<P> {
     ghost use Rattle.std.specs.Prelude.{Some, None};
     ghost use Rattle.art_kinds.specs.OneKinds.{IsOneKind};
 
-    ghost view = { λ s. record { fours = s.fours; sixteens = s.sixteens; forty_eights = s.forty_eights; fulls = s.fulls } };
+    ghost view = { λ s. record {
+      fours = s.fours;
+      sixteens = s.sixteens;
+      forty_eights = s.forty_eights;
+      fulls = s.fulls;
+    } };
 
-    ghost invariant = { λ s. record { fours : IsOneKind P (Some 4) s.fours; sixteens : IsOneKind P (Some 16) s.sixteens; forty_eights : IsOneKind P (Some 48) s.forty_eights; fulls : IsOneKind P None s.fulls } };
+    ghost invariant = { λ s. record {
+      fours : IsOneKind P (Some 4) s.fours;
+      sixteens : IsOneKind P (Some 16) s.sixteens;
+      forty_eights : IsOneKind P (Some 48) s.forty_eights;
+      fulls : IsOneKind P None s.fulls;
+    } };
 }
 
 impl<const P: usize> Nodes<P> {

@@ -1,4 +1,5 @@
--- What is kept by a closure that depends on the pair alone, or counts, and written by one that keeps each pair.
+-- What is kept by a closure that depends on the pair alone, or counts, and written by one that
+-- keeps each pair.
 use Rattle.std.proofs.Common.{◌≡◌, ℕ, zero, suc, ◌-◌, ltb, take, arith, List, [], ◌∷◌, filter, map, Bool, true, false, cond, refl, ap, ◌∙◌}
 use Rattle.std.proofs.lemmas.Bool.{lt-ltb}
 use Rattle.std.specs.Borrow.{Bor, MutBor}

@@ -25,7 +25,8 @@ module _ {K V F : Type 0} (g : Mut F (Bor K × (MutBor V × Unit {0})) (Bool × 
   abbrev Out : List (Numbered K V) → Option (K × V) → List (Numbered K V) → Type 0
   Out S r S' = MatchOption r (S' ≡ S) (λ x. (id : ℕ) × (leaf_in S id ≡ Some x) × (S' ≡ without_number S id))
 
-  -- the map will be the same in the end, the first pair that passes is extracted and no other, and I holds of the closure
+  -- the map will be the same in the end, the first pair that passes is extracted and no other, and
+  -- I holds of the closure
   abbrev Steps : List (Numbered K V) → List (Numbered K V) → Option (K × V) → List (Numbered K V) → F → List (Numbered K V) → Type 0
   Steps S coming r S' f' rest =
       (taken_all test rest S' ≡ taken_all test coming S)
@@ -87,7 +88,8 @@ module _ {K V F : Type 0} {p : ℕ} {k : Ghosts K} (g : Mut F (Bor K × (MutBor 
   unfolding pairs
   extracted I test tells i = let h = steps g I test tells (extract_left s) s.map.now s.pred r t.map.now t.pred (extract_left t) i next.1 in (ap pairs_of h.0, h.1, h.2)
 
-  -- the extracted pair is the first that passes, and the map has S without it; if there is none, the map is unchanged
+  -- the extracted pair is the first that passes, and the map has S without it; if there is none,
+  -- the map is unchanged
   pub one_out : (I : F → Type 0) (test : K × V → Bool) → ((f : F) (k : K) (v : V) (b : Bool) (w : V) (h : F) → I f → CalledAtPair g f k v b w h → (b ≡ test (k, v)) × (w ≡ v) × I h)
       → I s.pred → (kb : K → List ℕ) (S : List (Numbered K V)) → s.map.now ≡ S → IsContent (pair_bytes kb) (pairs S)
       → (r ≡ slice_get (still_to_extract test s) 0) × MatchOption r (t.map.now ≡ S) (λ x. pairs t.map.now ≡ without (pair_bytes kb) (pairs S) (kb x.0))

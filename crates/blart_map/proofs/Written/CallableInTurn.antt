@@ -48,7 +48,8 @@ module _ {F K V : Type 0} (g : Mut F (MutBor V × Unit {0}) (Unit {0} × (MutBor
   pub callable_on_each_value : (f : F) (xs : List (K × V)) → always_mut g f → CallableInTurn (LeavesValue g) (TakesAtValue g) f xs
   callable_on_each_value = callable_in (LeavesValue g) (TakesAtValue g) (always_mut g) (λ f f' x w l h. mut_next g f _ _ _ _ l.called refl h) (λ f x h p e. (h.at ((p, tt) ∷ [])).0)
 
-  -- a closure that may be called in any state on the value of a pair for which P holds, if P holds of all pairs
+  -- a closure that may be called in any state on the value of a pair for which P holds, if P holds
+  -- of all pairs
   pub callable_on_such_values : (P : K × V → Type 0) → ((f : F) (x : K × V) → P x → TakesAtValue g f x) → (f : F) (left S : List (Numbered K V)) → left ≡ S → All P (pairs S) → CallableInTurn (LeavesValue g) (TakesAtValue g) f (pairs_of left)
   callable_on_such_values = callable_all (LeavesValue g) (TakesAtValue g)
 

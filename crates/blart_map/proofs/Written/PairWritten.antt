@@ -41,7 +41,8 @@ module _ {K V : Type 0} where
       some-injective {p} {q} e = ap (λ o. unwrap_or o p) e
 
   module _ (old new left after : List (Numbered K V)) (last : Option ℕ) (k : K) (v u x w : V) (now still : List (Numbered K V)) (found : MatchOption last ⊤ (λ id. leaf_in new id ≡ Some (k, x))) (written : now ≡ written_last last new w) (same : still ≡ after) where
-    -- if a walk lent its first value, and w was written through `pair`, which returned the key k, it is as if w was written where `next` lent it
+    -- if a walk lent its first value, and w was written through `pair`, which returned the key k,
+    -- it is as if w was written where `next` lent it
     pub pair_written : LentFirst old new left after last v u → (r : LentFirst old now left still last v w) × (r.key ≡ k)
     pair_written h =
         let is : now ≡ with_value old h.number w = written ∙ again old new last h.number u w h.is_last h.lent.written in (

@@ -58,7 +58,8 @@ impl<K: NoPrefixesBytes + Drop, V: Drop, const PREFIX_LEN: usize> TreeMap<K, V, 
     /// the sort fails to allocate, it makes an insertion for each pair.
     ///
     /// ```
-    /// let map = Map::from_vec(alloc, vec![in alloc; (U32Key::new(2), 'b'), (U32Key::new(1), 'a')]?)?;
+    /// let pairs = vec![in alloc; (U32Key::new(2), 'b'), (U32Key::new(1), 'a')]?;
+    /// let map = Map::from_vec(alloc, pairs)?;
     /// assert_eq!(map.first_key_value(), Some((&U32Key::new(1), &'a')));
     /// ```
     pub fn from_vec(alloc: Global, items: Vec<(K, V)>) -> Result<Self, AllocError>

@@ -24,7 +24,8 @@ use std::ops::Bound;
 ///
 /// ```
 /// map.try_insert("cat", 0)?;
-/// let mut walk = map.extract_if(Bound::<&&str>::Unbounded, Bound::Unbounded, |_, value| *value == 0);
+/// let start = Bound::<&&str>::Unbounded;
+/// let mut walk = map.extract_if(start, Bound::Unbounded, |_, value| *value == 0);
 /// assert_eq!(walk.next(), Some(("cat", 0)));
 /// assert!(walk.next().is_none());
 /// ```
@@ -48,8 +49,8 @@ impl<K: AsBytes, V, const PREFIX_LEN: usize> TreeMap<K, V, PREFIX_LEN> {
     /// the pair that it yields.
     ///
     /// ```
-    /// let low = "b";
-    /// let mut walk = map.extract_if(Bound::Included(&low), Bound::Unbounded, |_, value| *value == 0);
+    /// let start = Bound::Included(&"b");
+    /// let mut walk = map.extract_if(start, Bound::Unbounded, |_, value| *value == 0);
     /// while let Some((key, value)) = walk.next() {
     ///     // each key from "b" on whose value is 0, no longer in the map
     /// }

@@ -54,8 +54,8 @@ impl<K: AsBytes, V, const PREFIX_LEN: usize> TreeMap<K, V, PREFIX_LEN> {
     ///
     /// ```
     /// let mut visits = Visits::new();
-    /// let (low, high) = ("b", "d");
-    /// let mut cursor = map.cursor_counted(Bound::Included(&low), Bound::Excluded(&high), &mut visits);
+    /// let (start, end) = (Bound::Included(&"b"), Bound::Excluded(&"d"));
+    /// let mut cursor = map.cursor_counted(start, end, &mut visits);
     /// let first = map.step(&mut cursor, &mut visits);
     /// ```
     pub fn cursor_counted<Q: AsBytes>(

@@ -67,7 +67,8 @@ tree_spec 𝓤 𝓛 𝓜 𝓡 wired =
     fsplit3 ! $ move ! (1 ∷ 2 ∷ 3 ∷ []) $ opens ! tt Hd rb ro (λ us. move ! (1 ∷ []) $ use1 𝓛 (‵ ((B E).own_val (held m) us)) (id⊢ 𝓤 _) $
     box_out E ! (held m) us (λ b o h at_b ws fits. use1 𝓛 (‵ (part_at R full_share m.tree b o)) (id⊢ 𝓤 _) $
     move ! (1 ∷ 2 ∷ []) $ fjoin ! $ move ! (1 ∷ []) $ rewrite ! 2 (λ (xs : List Val). ‵ (cell_at full_share Hd.mir xs rb ro)) ws refl $
-    -- [the tree; the right to free, with the allocator; the handle's cell; the open borrow, in three entries]
+    -- [the tree; the right to free, with the allocator; the handle's cell; the open borrow, in
+    -- three entries]
     first ! $ blocks ! $
     sets ! (of_opd ! (load ! (through ! refl (fld ! refl (stop !))) (look_in ! 2 (sub ! 0 refl (whole !))))) refl (tt, tt) $
     sets ! (of_opd ! (get ! refl)) refl (tt, tt) $
