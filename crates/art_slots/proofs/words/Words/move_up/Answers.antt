@@ -1,5 +1,5 @@
 use Rattle.std.proofs.Common.{ap, refl, ◌∙◌}
-use Rattle.art_slots.specs.Words.{numbers, block_at, times}
+use Rattle.art_slots.specs.Words.{block_at, times}
 use Rattle.art_slots.proofs.Moves.{times-moved_up, block-same, low-moves_up, both-move_up, low_here, within_block, same-length}
 use Rattle.art_slots.proofs.words.Words.move_up.Goals as goal
 
@@ -16,13 +16,8 @@ returns-then-has_block-clause-moved c =
 
 pub returns-then-has_block-clause-same : goal.returns-then-has_block-clause-same
 returns-then-has_block-clause-same c n =
-    let low = c.self.inside.low in
-    let high = c.self.inside.high in
-    let i = c.args.block in
-    let here = rw (← c.self.view_is) at c.requires.block in
-    let w = within_block (numbers low high) i c.args.to here c.requires.within in
-    let m = both-move_up low c.move_up.new.self high c.move_up-then-has_block.new.self i c.args.from c.args.to (low_here low high i here) (c.has_block.ensures.here c.if-has_block.true) c.requires.order c.requires.within c.move_up.ensures.moved c.move_up-then-has_block.ensures.moved in
-    rw (← c.self.view_is) (ap (λ ns. times ns n) m ∙ times-moved_up (block_at (numbers low high) i) c.args.from c.args.to c.requires.order w n)
+    ap (λ ns. times ns n) (returns-then-has_block-clause-moved c)
+    ∙ times-moved_up (block_at c.args.self.now c.args.block) c.args.from c.args.to c.requires.order (within_block c.args.self.now c.args.block c.args.to c.requires.block c.requires.within) n
 
 pub returns-then-has_block-clause-others : goal.returns-then-has_block-clause-others
 returns-then-has_block-clause-others c j ne =
@@ -37,18 +32,12 @@ returns-else-has_block-clause-moved c =
     let low = c.self.inside.low in
     let high = c.self.inside.high in
     let i = c.args.block in
-    let here = rw (← c.self.view_is) at c.requires.block in
     rw (← c.self.view_is) (low-moves_up low c.move_up.new.self high i c.args.from c.args.to (c.has_block.ensures.past c.if-has_block.false) c.move_up.ensures.moved)
 
 pub returns-else-has_block-clause-same : goal.returns-else-has_block-clause-same
 returns-else-has_block-clause-same c n =
-    let low = c.self.inside.low in
-    let high = c.self.inside.high in
-    let i = c.args.block in
-    let here = rw (← c.self.view_is) at c.requires.block in
-    let w = within_block (numbers low high) i c.args.to here c.requires.within in
-    let m = low-moves_up low c.move_up.new.self high i c.args.from c.args.to (c.has_block.ensures.past c.if-has_block.false) c.move_up.ensures.moved in
-    rw (← c.self.view_is) (ap (λ ns. times ns n) m ∙ times-moved_up (block_at (numbers low high) i) c.args.from c.args.to c.requires.order w n)
+    ap (λ ns. times ns n) (returns-else-has_block-clause-moved c)
+    ∙ times-moved_up (block_at c.args.self.now c.args.block) c.args.from c.args.to c.requires.order (within_block c.args.self.now c.args.block c.args.to c.requires.block c.requires.within) n
 
 pub returns-else-has_block-clause-others : goal.returns-else-has_block-clause-others
 returns-else-has_block-clause-others c j ne =
