@@ -278,6 +278,7 @@ impl<T: Drop> Chain<T> {
         ensures pairs { self.new.pairs ≡ self.old.pairs }
         ensures spare { self.new.spare ≡ self.old.spare }
         ensures top { self.new.top ≡ self.old.top }
+        ensures next { self.new.next ≡ self.old.next }
         ensures ok { OnOk result (0 < self.new.room) }
         ensures needed { OnErr result (self.old.room ≡ 0) }
     {
