@@ -37,7 +37,7 @@ module _ (rows : List (Numbered (List ℕ))) (r : ℕ) (ids : List ℕ) (at : le
 
   module _ (full : length ids ≡ 64) where
     -- if there is room, and a row is full, there is a spare row
-    pub spare_full : (spare : ℕ) → 0 < row_room (lengths rows) spare → 0 < spare
+    spare_full : (spare : ℕ) → 0 < row_room (lengths rows) spare → 0 < spare
     spare_full spare h = room_spare (lengths rows) spare (rw shown_lengths (load_full (lengths parts.before) (lengths parts.after) (length ids) full)) h
 
     -- a new row of one number after the last row, if that is full, takes at most one turn
@@ -69,6 +69,10 @@ module _ {rows : List (Numbered (List ℕ))} {k : ℕ} {p : Position} (s : IsSpo
   -- what holds of the row's numbers holds of the numbers of the spot
   pub spot_ids : (P : List ℕ → Type 0) → IfSome (leaf_in rows p.row) P → P s.ids
   spot_ids P h = rw (spot-row rows k p s d) at h
+
+  -- if the row is full, and there is room, there is a spare row
+  pub spot_spare : length s.ids ≡ 64 → (spare : ℕ) → 0 < row_room (lengths rows) spare → 0 < spare
+  spot_spare full = spare_full rows p.row s.ids (spot-row rows k p s d) full
 
   -- a number inserted in the row takes at most one turn
   pub spot_put : (new : List (Numbered (List ℕ))) (n spare : ℕ) → IfSome (leaf_in rows p.row) (λ ids. new ≡ with_pair rows p.row (take p.place ids ++ n ∷ drop p.place ids)) → turns (lengths rows) spare ≤ turns (lengths new) spare + 1

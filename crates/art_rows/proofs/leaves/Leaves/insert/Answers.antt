@@ -6,7 +6,7 @@ use Rattle.art_rows.specs.declared.row.Position.{Position}
 use Rattle.art_rows.proofs.FilingLemmas.{seen_rows}
 use Rattle.art_rows.proofs.NumbersLemmas.{Has-after}
 use Rattle.art_rows.proofs.RowRoomLemmas.{room_spare, room_less, load_starts}
-use Rattle.art_rows.proofs.Rooms.{spot_has, spot_ids, spot_put, spot_end, spot_front, spot_next, front_turns, end_turns, spare_full}
+use Rattle.art_rows.proofs.Rooms.{spot_has, spot_ids, spot_put, spot_end, spot_front, spot_next, front_turns, end_turns, spot_spare}
 use Rattle.art_rows.proofs.RowChanges.{spot-row}
 use Rattle.art_rows.proofs.Crowds.{is_full, in_front}
 use Rattle.art_rows.proofs.leaves.Leaves.insert.Goals as goal
@@ -36,7 +36,6 @@ pub begin-requires-then-position-eq0-clause-spare_rows : goal.begin-requires-the
 begin-requires-then-position-eq0-clause-spare_rows g c =
     let f = seen_rows c.self.inside c.self.view_is c.self.invariant in
     let s = c.in-Some.ensures.some in
-    let at = spot-row c.args.self.now.rows _ c.in-Some.position s f.apart in
     let full = full_row s f.apart c.row_len.result c.row_len.ensures.len c.row_len.ensures.fits c.if-row_len-lt-ROW.false in
     let front = in_front c.args.prev c.args.self.now.pairs c.in-Some.position.place c.in-Some.ensures.later c.if-position-eq0.true in
     let starts = spot_front s f.apart front f.filled full in
@@ -49,7 +48,6 @@ pub returns-then-position-eq0-clause-room : goal.returns-then-position-eq0-claus
 returns-then-position-eq0-clause-room g c =
     let f = seen_rows c.self.inside c.self.view_is c.self.invariant in
     let s = c.in-Some.ensures.some in
-    let at = spot-row c.args.self.now.rows _ c.in-Some.position s f.apart in
     let full = full_row s f.apart c.row_len.result c.row_len.ensures.len c.row_len.ensures.fits c.if-row_len-lt-ROW.false in
     let front = in_front c.args.prev c.args.self.now.pairs c.in-Some.position.place c.in-Some.ensures.later c.if-position-eq0.true in
     let starts = spot_front s f.apart front f.filled full in
@@ -71,9 +69,8 @@ pub begin-requires-in-None-row_after-clause-spare_rows : goal.begin-requires-in-
 begin-requires-in-None-row_after-clause-spare_rows g c =
     let f = seen_rows c.self.inside c.self.view_is c.self.invariant in
     let s = c.in-Some.ensures.some in
-    let at = spot-row c.args.self.now.rows _ c.in-Some.position s f.apart in
     let full = full_row s f.apart c.row_len.result c.row_len.ensures.len c.row_len.ensures.fits c.if-row_len-lt-ROW.false in
-    spare_full c.args.self.now.rows c.in-Some.position.row s.ids at full c.args.self.now.spare_rows c.requires.room
+    spot_spare s f.apart full c.args.self.now.spare_rows c.requires.room
 
 pub begin-requires-in-None-row_after-clause-prev_row : goal.begin-requires-in-None-row_after-clause-prev_row
 begin-requires-in-None-row_after-clause-prev_row g c =
@@ -85,10 +82,8 @@ pub begin-requires-in-None-row_after-clause-index : goal.begin-requires-in-None-
 begin-requires-in-None-row_after-clause-index g c =
     let f = seen_rows c.self.inside c.self.view_is c.self.invariant in
     let s = c.in-Some.ensures.some in
-    let at = spot-row c.args.self.now.rows _ c.in-Some.position s f.apart in
     let full = full_row s f.apart c.row_len.result c.row_len.ensures.len c.row_len.ensures.fits c.if-row_len-lt-ROW.false in
-    let end = spot_end s f.apart (omega (arith, s.within, c.if-position-lt-ROW.false)) in
-    end
+    spot_end s f.apart (omega (arith, s.within, c.if-position-lt-ROW.false))
 
 pub returns-in-None-row_after-clause-room : goal.returns-in-None-row_after-clause-room
 returns-in-None-row_after-clause-room g c =
@@ -110,7 +105,6 @@ pub put-requires-in-Some-row_after-clause-spot : goal.put-requires-in-Some-row_a
 put-requires-in-Some-row_after-clause-spot g c =
     let f = seen_rows c.self.inside c.self.view_is c.self.invariant in
     let s = c.in-Some.ensures.some in
-    let at = spot-row c.args.self.now.rows _ c.in-Some.position s f.apart in
     let full = full_row s f.apart c.row_len.result c.row_len.ensures.len c.row_len.ensures.fits c.if-row_len-lt-ROW.false in
     let end = spot_end s f.apart (omega (arith, s.within, c.if-position-lt-ROW.false)) in
     spot_next c.args.self.now.rows f.apart c.in-Some.position.row _ c.in-Some-row_after.next (spot_has s f.apart) end (sym c.row_after.ensures ∙ c.in-Some-row_after.is)
@@ -119,7 +113,6 @@ pub returns-in-Some-row_after-clause-room : goal.returns-in-Some-row_after-claus
 returns-in-Some-row_after-clause-room g c =
     let f = seen_rows c.self.inside c.self.view_is c.self.invariant in
     let s = c.in-Some.ensures.some in
-    let at = spot-row c.args.self.now.rows _ c.in-Some.position s f.apart in
     let full = full_row s f.apart c.row_len.result c.row_len.ensures.len c.row_len.ensures.fits c.if-row_len-lt-ROW.false in
     let end = spot_end s f.apart (omega (arith, s.within, c.if-position-lt-ROW.false)) in
     let t = spot_next c.args.self.now.rows f.apart c.in-Some.position.row _ c.in-Some-row_after.next (spot_has s f.apart) end (sym c.row_after.ensures ∙ c.in-Some-row_after.is) in

@@ -1,9 +1,8 @@
 use Rattle.std.proofs.Common.{◌≡◌, length, arith}
 use Rattle.art_rows.specs.Rows.{lengths}
 use Rattle.art_rows.proofs.FilingLemmas.{seen_rows}
-use Rattle.art_rows.proofs.RowChanges.{spot-row}
 use Rattle.art_rows.proofs.RowRoomLemmas.{room_less}
-use Rattle.art_rows.proofs.Rooms.{spot_has, spot_ids, spare_full}
+use Rattle.art_rows.proofs.Rooms.{spot_has, spot_ids, spot_spare}
 use Rattle.art_rows.proofs.Cuts.{cut_at, low_len, high_len, cut_apart, cut_low, cut_high, cut_below, cut_above, cut_put}
 use Rattle.art_rows.proofs.leaves.Leaves.put_apart.Goals as goal
 
@@ -14,9 +13,7 @@ pub cut-new-requires-clause-spare : goal.cut-new-requires-clause-spare
 cut-new-requires-clause-spare g c =
     let f = seen_rows c.self.inside c.self.view_is c.self.invariant in
     let s = c.requires.spot in
-    let rows = c.args.self.now.rows in
-    let full = spot_ids s f.apart (λ ids. length ids ≡ 64) c.requires.full in
-    spare_full rows c.args.position.row s.ids (spot-row rows _ c.args.position s f.apart) full c.args.self.now.spare_rows c.requires.room
+    spot_spare s f.apart (spot_ids s f.apart (λ ids. length ids ≡ 64) c.requires.full) c.args.self.now.spare_rows c.requires.room
 
 pub overflow_sub-upper : goal.overflow_sub-upper
 overflow_sub-upper g c = omega (arith, c.if-position-le-HALF.false)
