@@ -14,8 +14,7 @@ use Rattle.art_rows.proofs.RowChanges.{spot-lacks}
 use Rattle.art_rows.proofs.Rooms.{lengths_at, parts, shown, spot_ids, spot_put}
 use Rattle.art_rows.proofs.RowRoomLemmas.{turns_cut}
 
--- a full row is cut in half: what is before the row, its numbers, what is after it, and the rows
--- now
+-- a full row was cut in half: the rows before it, its numbers, and the rows after it
 pub record IsCut (rows now : List (Numbered (List ℕ))) (row new : ℕ) : Type 0 where
   pub before : List (Numbered (List ℕ))
   pub ids : List ℕ
@@ -101,14 +100,14 @@ module _ {rows now : List (Numbered (List ℕ))} {row new : ℕ} (c : IsCut rows
         within = omega arith;
       }
 
-  -- a pair put at a spot of the rows now takes at most one turn of those before
+  -- a cut and a pair that is then put at a spot take at most one turn together
   pub cut_put : {p : Position} {k : ℕ} (s : IsSpot now p k) → AreDistinct now → (then : List (Numbered (List ℕ))) (n spare less : ℕ) → less + 1 ≡ spare → IfSome (leaf_in now p.row) (λ ids. then ≡ with_pair now p.row (take p.place ids ++ n ∷ drop p.place ids)) → turns (lengths rows) spare ≤ turns (lengths then) less + 1
   cut_put s d then n spare less e put =
       let t = rw e at (cut_turns less) in
       let u = spot_put s d then n less put in
       omega arith
 
--- the row of a spot was cut, if it was full
+-- the cut of a spot's row, which was full
 abbrev pub cut_at : {rows : List (Numbered (List ℕ))} {p : Position} {k : ℕ} (s : IsSpot rows p k) → AreDistinct rows → IfSome (leaf_in rows p.row) (λ ids. length ids ≡ 64) → (new : ℕ) (now : List (Numbered (List ℕ))) → IfSome (leaf_in rows p.row) (λ ids. now ≡ with_pair_after (Some p.row) (new, drop 32 ids) (with_pair rows p.row (take 32 ids))) → IsCut rows now p.row new
 cut_at {rows} {p} {k} s d full new now cut = record {
   before = s.before;

@@ -11,7 +11,7 @@ pub record IsRow (low high : List ℕ) (count : ℕ) : Type 0 where
   pub once : (n : ℕ) → times (words low high) n ≤ 1
   pub small : (n : ℕ) → 0 < times (words low high) n → n < 2 ^ 61
 
--- the row of a number and a count: as many numbers of its block as the count says
+-- a row's number, and the first numbers of its block: as many as its count
 abbrev pub cells_of : List ℕ → Numbered ℕ → Numbered (List ℕ)
 cells_of cells r = (r.0, take r.1 (block_at cells r.0))
 

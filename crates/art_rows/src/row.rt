@@ -40,8 +40,7 @@ impl Position {
 #[derive(Drop)]
 pub(crate) struct Row<'a> {
     pub(crate) low: &'a [u32],
-    /// The high halves, or nothing if the list that the row is a part of has none. All its numbers
-    /// are less than 2^32 then.
+    /// The high halves. It is empty if the list has none, and all its numbers are less than 2^32.
     pub(crate) high: &'a [u32],
     pub(crate) count: usize,
 }
@@ -62,7 +61,7 @@ impl<'a> Model for Row<'a> {
 }
 
 impl<'a> Row<'a> {
-    /// Returns a row with these numbers, of which the first `count` are in use.
+    /// Returns a row with these numbers. The first `count` are in use.
     #[inline(always)]
     pub(crate) fn new(low: &'a [u32], high: &'a [u32], count: usize) -> Self
         requires { IsRow low.now high.now count }

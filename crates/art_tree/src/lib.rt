@@ -8,6 +8,8 @@
 
 mod lists;
 mod pair_list;
+#[cfg(test)]
+mod tests;
 mod tree;
 mod walk;
 

@@ -21,19 +21,19 @@ Walked whole fronts backs rest = whole ≡ fronts ++ (rest ++ reverse backs)
 -- `R f x b y g`: in the state f, called on x, a closure may return b, leave y for x and the state g
 module _ {F X : Type 0} (R : F → X → Bool → X → F → Type 0) where
   -- The closure was called once on each item, in order, from the state f to g. It returned these
-  -- answers and left these items
+  -- booleans, and changed the items to those of `left`
   abbrev pub Asked : List X → F → List Bool → List X → F → Type 0
   Asked [] f [] [] g = f ≡ g
   Asked (x ∷ items) f (b ∷ answers) (y ∷ left) g = (h : F) × R f x b y h × Asked items h answers left g
   Asked _ f _ _ g = ⊥
 
--- the items for which the answer is true
+-- the items at which the list has `true`
 abbrev pub picked : {X : Type 0} → List Bool → List X → List X
 picked (true ∷ answers) (x ∷ items) = x ∷ picked answers items
 picked (false ∷ answers) (x ∷ items) = picked answers items
 picked _ _ = []
 
--- each answer is false
+-- each boolean is false
 abbrev pub AllFalse : List Bool → Type 0
 AllFalse [] = ⊤
 AllFalse (b ∷ answers) = (b ≡ false) × AllFalse answers

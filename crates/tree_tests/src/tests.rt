@@ -3,7 +3,6 @@
 mod ids;
 mod kinds;
 mod pair_lists;
-mod parts;
 mod steps;
 mod trees;
 

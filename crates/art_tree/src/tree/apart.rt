@@ -2,14 +2,11 @@
 ghost use Rattle.std.specs.Prelude.{◌≡◌, ◌≤◌, length};
 ghost use Rattle.blart_keys.specs.Content.{IsContent};
 ghost use Rattle.blart_keys.specs.Steps.{bytes};
-ghost use Rattle.art_tree.specs.Invariant.Sound.{IsSound};
 ghost use Rattle.art_tree.specs.Pairs.{pairs_of};
 
 use crate::pair_list::Pairs;
 use crate::tree::Tree;
 use crate::tree::build::{Frame, build};
-use art_kinds::{Child, Nodes};
-use art_rows::Leaves;
 use blart_keys::AsBytes;
 
 impl<K: AsBytes, V, const PREFIX_LEN: usize> Tree<K, V, PREFIX_LEN> {
@@ -22,22 +19,6 @@ impl<K: AsBytes, V, const PREFIX_LEN: usize> Tree<K, V, PREFIX_LEN> {
         let Tree { leaves, nodes, .. } = self;
         drop(nodes);
         Pairs { leaves }
-    }
-
-    /// Returns all parts of the tree: the leaves, the inner nodes, and the root. There is one inner
-    /// node at each prefix where neighbouring keys part, and no other.
-    ///
-    /// Cost: none.
-    pub fn into_parts(self) -> (Leaves<K, V>, Nodes<PREFIX_LEN>, Option<Child>)
-        ensures leaves { result.0.pairs ≡ self.pairs }
-        ensures sound { IsSound K.bytes PREFIX_LEN result.0 result.1 result.2 }
-    {
-        let Tree {
-            leaves,
-            nodes,
-            root,
-        } = self;
-        (leaves, nodes, root)
     }
 
     /// Returns a tree of these pairs. The bytes of their keys must ascend, and no key's bytes may

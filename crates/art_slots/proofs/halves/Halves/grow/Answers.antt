@@ -5,7 +5,7 @@ use Rattle.art_slots.specs.Halves.{joined, AreWhole}
 use Rattle.art_slots.proofs.Blocks.{length-joined, whole-more, zeros-more}
 use Rattle.art_slots.proofs.halves.Halves.grow.Goals as goal
 
--- if P holds, it holds on an error
+-- a fact that holds also holds if there is an error
 on_err : {A E P : Type 0} (r : Result A E) → P → OnErr r P
 on_err (Ok x) p = tt
 on_err (Err e) p = p

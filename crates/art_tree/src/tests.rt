@@ -1,11 +1,15 @@
-//! A tree taken apart. It has a thousand keys, each with its place as value. The tests assert what
-//! the tree is made of, and by its size that nothing else is there.
-use super::add;
+//! Takes a tree apart. It has a thousand keys, each with its place as value. The tests assert what
+//! the tree is made of, and that nothing else is there. Each pattern names every field of its type,
+//! so a new field does not compile until a test looks at it.
+use crate::pair_list::Pairs;
+use crate::tree::Tree;
+use crate::tree::build::Frame;
+use crate::tree::descent::Spot;
+use crate::tree::parting::Beside;
+use crate::tree::point::{Place, Point};
+use crate::walk::Walk;
 use art_kinds::{Child, NodeRef, Nodes};
-use art_rows::Leaves;
 use art_slots::Visits;
-use art_tree::{Pairs, Tree};
-use std::mem;
 use std::process::Abort;
 
 /// A tree whose nodes store no part of their compressed prefixes.
@@ -19,6 +23,19 @@ fn byte_of(digit: usize) -> u8 {
 /// Returns the key of a place less than 1,000, with a byte for each of its digits.
 fn key_of(place: usize) -> [u8; 3] {
     [byte_of(place / 100), byte_of(place / 10), byte_of(place)]
+}
+
+/// Adds the pair of a place. Its key is related to no other.
+fn add(rt: &impl Abort, tree: &mut Bare, place: usize) {
+    let key = key_of(place);
+    let point = tree.point(&key);
+    tree.make_room(&point).expect(rt, "memory");
+    match point {
+        Point::Exact(_) | Point::Related { .. } => panic!(rt; "the key conflicts"),
+        Point::Empty | Point::Free(_) => {
+            tree.place(point, key, place);
+        }
+    }
 }
 
 /// The number of the id of each key's leaf.
@@ -82,28 +99,78 @@ fn assert_all(rt: &impl Abort, nodes: &Nodes<0>, root: Option<Child>, numbers: &
     }
 }
 
-/// A tree has its leaves, its inner nodes and its root, and a list of pairs has its leaves alone.
-#[test]
-fn sizes_of_parts(rt: HostRuntime) {
-    let leaves = mem::size_of::<Leaves<[u8; 3], usize>>();
-    let nodes = mem::size_of::<Nodes<0>>();
-    let root = mem::size_of::<Option<Child>>();
-    assert!(rt; mem::size_of::<Bare>() == leaves.wrapping_add(nodes).wrapping_add(root));
-    assert!(rt; mem::size_of::<Pairs<[u8; 3], usize>>() == leaves);
+/// Returns the place of a free point.
+fn place_of(rt: &impl Abort, tree: &Bare, query: &[u8]) -> Place {
+    match tree.point(query) {
+        Point::Free(place) => place,
+        Point::Empty | Point::Exact(_) => panic!(rt; "a place"),
+        Point::Related { first: _, last: _ } => panic!(rt; "a place"),
+    }
+}
+
+/// Asserts that the place of some bytes, which leave the keys at a node, names a leaf, the node,
+/// and one byte of a key.
+fn assert_places(rt: &impl Abort, tree: &Bare, numbers: &Numbers) {
+    let Place {
+        nearest,
+        depth,
+        beside,
+        spot,
+        byte,
+    } = place_of(rt, tree, &[100, 100, 101]);
+    assert!(rt; depth == 2 && nearest.number() == numbers[0] && byte == byte_of(0));
+    match beside {
+        Beside::AfterLeaf(id) => assert!(rt; id.number() == numbers[0]),
+        Beside::BeforeLeaf(_) => panic!(rt; "the place is after the leaf"),
+    }
+    match spot {
+        Spot::Node(above, _) => assert!(rt; above.is_some()),
+        Spot::Edge(_, _) => panic!(rt; "the bytes leave the keys at a node"),
+    }
+}
+
+/// Asserts that a walk over no pairs of a tree has the tree's leaves, and no ends.
+fn assert_walk(rt: &impl Abort, tree: &Bare) {
+    let Walk {
+        leaves,
+        ends,
+        following: _,
+        before: _,
+    } = Walk::new(tree, None);
+    assert!(rt; leaves.len() == 1000 && ends.is_none());
 }
 
 #[test]
 fn a_tree_taken_apart(rt: HostRuntime) {
     let mut tree = Bare::new(rt.alloc());
     for place in 0..1000 {
-        add(&rt, &mut tree, key_of(place), place);
+        add(&rt, &mut tree, place);
     }
     let numbers = numbers_of(&rt, &tree);
-    let (leaves, nodes, root) = tree.into_parts();
+    assert_places(&rt, &tree, &numbers);
+    assert_walk(&rt, &tree);
+    let Tree {
+        leaves,
+        nodes,
+        root,
+    } = tree;
     assert_all(&rt, &nodes, root, &numbers);
     let (live, len) = (nodes.live(), leaves.len());
     drop(nodes);
     drop(leaves);
     // The keys part after no byte, after each byte and after each two bytes.
     assert!(rt; live == 1 + 10 + 100 && len == 1000);
+}
+
+#[test]
+fn pairs_taken_apart(rt: HostRuntime) {
+    let Pairs { leaves } = Pairs::<u8, u8>::new(rt.alloc());
+    assert!(rt; leaves.len() == 0);
+    drop(leaves);
+    let frame = Frame::<0>::new(rt.alloc(), 1000).expect(&rt, "memory");
+    let Frame { nodes, loose } = frame;
+    let (live, len) = (nodes.live(), loose.len());
+    drop(nodes);
+    drop(loose);
+    assert!(rt; live == 0 && len == 0);
 }
