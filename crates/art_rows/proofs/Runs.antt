@@ -3,12 +3,12 @@ use Rattle.std.proofs.Common.{◌≡◌, ℕ, zero, suc, ◌+◌, ◌-◌, ◌<�
 use Rattle.std.proofs.lemmas.List.{length-take-le, length-drop, length_push}
 use Rattle.std.specs.Prelude.{option_map, IfSome}
 use Rattle.art_rows.specs.Numbers.{Numbered, leaf_in, Has, number_after, number_before, AreDistinct}
-use Rattle.art_rows.specs.Rows.{place_in, nth, numbers, position_at, RunsAfter, RunsBefore, StandsAfter, start_of, nothing_follows}
+use Rattle.art_rows.specs.Rows.{place_in, nth, numbers, position_at, RunsAfter, RunsBefore, IsLookedUp, StandsAfter, start_of, nothing_follows}
 use Rattle.art_rows.specs.Filing.{Files}
 use Rattle.art_rows.specs.declared.following.Following.{Following}
 use Rattle.art_rows.specs.declared.leaves.Leaf.{Leaf}
 use Rattle.art_rows.specs.declared.row.Position.{Position}
-use Rattle.art_rows.proofs.FilingLemmas.{number_there, same_ids}
+use Rattle.art_rows.proofs.FilingLemmas.{number_there, same_ids, has_row_at}
 use Rattle.art_rows.proofs.RowsLemmas.{nth-append_left, nth-append_right, nth-within, number_after-nth, number_before-nth, place_in-nth, standing, standing-numbers, standing-end}
 
 -- the item at place j after the first k is the item at place k + j
@@ -47,16 +47,17 @@ module _ {X : Type 0} (ps : List (Numbered X)) (distinct : AreDistinct ps) (i n 
   after_index e = place_in-nth ps (place_in (map (λ p. p.0) ps) i + 1) n distinct (sym (number_after-nth ps i has) ∙ e)
 
   -- the same for all that follows
-  pub following_step : (rows : List (Numbered (List ℕ))) (a b : Following) → a.run ≡ n ∷ b.run → b.row ≡ a.row → b.run ≡ rest → StandsAfter ps rows i a → (number_after ps i ≡ Some n) × StandsAfter ps rows n b
-  following_step rows a b cut same is s =
-      let r = after_step (subst (RunsAfter ps i) (cut ∙ ap (λ l. n ∷ l) is) s.run) in
+  pub following_step : (rows : List (Numbered (List ℕ))) (a : Following) → a.run ≡ n ∷ rest → StandsAfter ps rows i a → (number_after ps i ≡ Some n) × StandsAfter ps rows n (record a { run = rest })
+  following_step rows a cut s =
+      let r = after_step (subst (RunsAfter ps i) cut s.run) in
       let c : place_in (map (λ p. p.0) ps) n ≡ place_in (map (λ p. p.0) ps) i + 1 = after_index r.0 in
-      let l : length a.run ≡ suc (length b.run) = ap length cut in
-      let e : place_in (map (λ p. p.0) ps) n + 1 + length b.run ≡ place_in (map (λ p. p.0) ps) i + 1 + length a.run = omega arith in (
+      let l : length a.run ≡ suc (length rest) = ap length cut in
+      let e : place_in (map (λ p. p.0) ps) n + 1 + length rest ≡ place_in (map (λ p. p.0) ps) i + 1 + length a.run = omega arith in (
         r.0,
         record {
-          run = subst (RunsAfter ps n) (sym is) r.1;
-          row = subst (λ (o : Option ℕ). IfSome o (λ r. position_at rows (place_in (map (λ p. p.0) ps) n + 1 + length b.run) ≡ Some (start_of r))) (sym same) (subst (λ k. IfSome a.row (λ r. position_at rows k ≡ Some (start_of r))) (sym e) s.row);
+          run = r.1;
+          row = subst (λ k. IfSome a.row (λ r. position_at rows k ≡ Some (start_of r))) (sym e) s.row;
+          ahead = s.ahead;
         },
       )
 
@@ -114,8 +115,9 @@ module _ {K V : Type 0} {leaves : ℕ → Option (Leaf K V)} {rows : List (Numbe
       standing-end rows k p s f.apart f.filled _ b
 
   -- what was looked up in the row and after it follows the number
-  pub following_there : (b : Following) → b.run ≡ drop (p.place + 1) ids → b.row ≡ number_after rows p.row → StandsAfter ps rows n b
-  following_there b run row = record {
+  pub following_there : (b : Following) → b.run ≡ drop (p.place + 1) ids → b.row ≡ number_after rows p.row → IfSome b.row (IsLookedUp rows b.first b.rest) → StandsAfter ps rows n b
+  following_there b run row ahead = record {
+    ahead = ahead;
     run = subst (RunsAfter ps n) (sym run) after_in_row;
     row = told b.row _ (ap (λ l. position_at rows (place_in (map (λ q. q.0) ps) n + 1 + length l)) run ∙ row_after_run ∙ ap (option_map start_of) (sym row));
   }
@@ -135,15 +137,29 @@ module _ {K V : Type 0} {leaves : ℕ → Option (Leaf K V)} {rows : List (Numbe
         λ j m e. nth_of_row j m (place_in (map (λ q. q.0) ps) n + j - length (take p.place ids)) (omega arith) (nth-take ids p.place j m e),
       )
 
+-- the row that is named is there
+pub next_row_there : {K V : Type 0} {leaves : ℕ → Option (Leaf K V)} {rows : List (Numbered (List ℕ))} {count : ℕ} {ps : List (Numbered (K × V))} (f : Files leaves rows count ps) (k : ℕ) (o : Option ℕ) → IfSome o (λ r. position_at rows k ≡ Some (start_of r)) → IfSome o (Has rows)
+next_row_there f k None at = tt
+next_row_there f k (Some r) at = has_row_at f k (start_of r) at
+
+-- if a run is empty, the first number of the row that is named comes next, and the others follow it
+pub row_entered : {K V : Type 0} {leaves : ℕ → Option (Leaf K V)} {rows : List (Numbered (List ℕ))} {count : ℕ} {ps : List (Numbered (K × V))} (f : Files leaves rows count ps) (i : ℕ) → Has ps i → (a : Following) → StandsAfter ps rows i a → a.run ≡ [] → (r n : ℕ) → a.row ≡ Some r → (b : Following) → leaf_in rows r ≡ Some (n ∷ b.run) → b.row ≡ number_after rows r → IfSome b.row (IsLookedUp rows b.first b.rest) → (number_after ps i ≡ Some n) × StandsAfter ps rows n b
+row_entered f i has a s none r n row b is after ahead =
+    let l : length a.run ≡ 0 = ap length none in
+    let at = rw row at s.row in (
+      next_there f _ (start_of r) at (n ∷ b.run) is n refl i has (omega arith),
+      following_there f _ (start_of r) at (n ∷ b.run) is n refl b refl after ahead,
+    )
+
+-- nothing is said of a row whose numbers were not looked up
+pub none_looked_up : (rows : List (Numbered (List ℕ))) (o : Option ℕ) → IfSome o (IsLookedUp rows None [])
+none_looked_up rows None = tt
+none_looked_up rows (Some r) = tt
+
 -- nothing is said of what follows a number if nothing was looked up
 pub unknown_follows : {X : Type 0} (ps : List (Numbered X)) (rows : List (Numbered (List ℕ))) (i : ℕ) → StandsAfter ps rows i nothing_follows
-unknown_follows ps rows i = record { run = λ j n e. absurd cc; row = tt }
+unknown_follows ps rows i = record { run = λ j n e. absurd cc; row = tt; ahead = tt }
 
 -- no numbers come directly before each number
 pub none_before_run : {X : Type 0} (ps : List (Numbered X)) (i : ℕ) → RunsBefore ps i []
 none_before_run ps i = (omega arith, λ j n e. absurd cc)
-
--- the same after a look-up, with the parts of what was looked up
-pub unknown_after : {X : Type 0} (ps : List (Numbered X)) (rows : List (Numbered (List ℕ))) (o : Option ℕ) (b : Following) → b.run ≡ [] → b.row ≡ None → IfSome o (λ n. StandsAfter ps rows n b)
-unknown_after ps rows None b run row = tt
-unknown_after ps rows (Some n) b run row = record { run = subst (RunsAfter ps n) (sym run) (λ j m e. absurd cc); row = subst (λ (q : Option ℕ). IfSome q (λ r. position_at rows (place_in (map (λ p. p.0) ps) n + 1 + length b.run) ≡ Some (start_of r))) (sym row) tt }

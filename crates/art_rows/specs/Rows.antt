@@ -1,6 +1,6 @@
 -- Rows of numbers: the row and the place of a number, and the numbers of all rows in order.
 use Rattle.std.specs.Prelude.{◌≡◌, ◌≤◌, ℕ, zero, suc, ◌+◌, ◌-◌, ◌<◌, List, [], ◌∷◌, ◌++◌, length, map, Option, Some, None, IfSome, Bool, true, false, if◌then◌else◌, eqb, ltb}
-use Rattle.art_rows.specs.Numbers.{Numbered}
+use Rattle.art_rows.specs.Numbers.{Numbered, leaf_in}
 use Rattle.art_rows.specs.declared.following.Following.{Following}
 use Rattle.art_rows.specs.declared.row.Position.{Position}
 
@@ -69,7 +69,11 @@ nowhere = record { row = 0; place = 0 }
 
 -- what follows a leaf if nothing was looked up after it
 abbrev pub nothing_follows : Following
-nothing_follows = record { run = []; row = None }
+nothing_follows = record { run = []; row = None; first = None; rest = [] }
+
+-- the row r has this first number, if there is one, and the others after it
+abbrev pub IsLookedUp : List (Numbered (List ℕ)) → Option ℕ → List ℕ → ℕ → Type 0
+IsLookedUp rows first rest r = IfSome first (λ n. leaf_in rows r ≡ Some (n ∷ rest))
 
 module _ {X : Type 0} where
   -- the numbers of a run come directly after i, in this order
@@ -84,3 +88,4 @@ module _ {X : Type 0} where
   pub record StandsAfter (ps : List (Numbered X)) (rows : List (Numbered (List ℕ))) (i : ℕ) (following : Following) : Type 0 where
     pub run : RunsAfter ps i following.run
     pub row : IfSome following.row (λ r. position_at rows (place_in (map (λ p. p.0) ps) i + 1 + length following.run) ≡ Some (start_of r))
+    pub ahead : IfSome following.row (IsLookedUp rows following.first following.rest)

@@ -1,7 +1,7 @@
 //! The leaf records, and their rows in the order of the keys.
-ghost use Rattle.std.specs.Prelude.{◌≡◌, ℕ, ◌+◌, ◌-◌, ◌*◌, ◌<◌, ◌≤◌, [], length, map, option_map, Some, None, IsSome, IfSome, OnOk, IfOk, OnErr};
+ghost use Rattle.std.specs.Prelude.{◌≡◌, ◌⊎◌, ℕ, ◌+◌, ◌-◌, ◌*◌, ◌<◌, ◌≤◌, [], length, map, option_map, Some, None, IsSome, IfSome, OnOk, IfOk, OnErr};
 ghost use Rattle.art_rows.specs.Numbers.{leaf_in, Has, AreDistinct, first_number, last_number, number_after, number_before, without_number, with_pair};
-ghost use Rattle.art_rows.specs.Rows.{position_at, nth, RunsBefore, StandsAfter};
+ghost use Rattle.art_rows.specs.Rows.{position_at, nth, RunsBefore, IsLookedUp, StandsAfter};
 ghost use Rattle.art_rows.specs.declared.row.Position.{Position};
 ghost use Rattle.art_rows.specs.declared.row.TheConstants.{ROW};
 ghost use Rattle.art_rows.specs.Leaves.{index_of, room, end_room, TakesFirst, TakesLast, AreCopies};
@@ -356,16 +356,19 @@ impl<K, V> Leaves<K, V> {
         let position = self.position_of(id);
         match self.rows.read(position.row).run_after(position.place) {
             None => Following::unknown(),
-            Some(run) => {
-                let row = self.row_after(position.row);
-                Following { run, row }
-            }
+            Some(run) => Following {
+                run,
+                row: self.row_after(position.row),
+                first: None,
+                rest: Run::empty(),
+            },
         }
     }
 
     /// Returns the leaf after this one. `following` has some of the ids directly after this one in
     /// its row. If these are all, it may also have the next row. The call sets it to what follows
-    /// the returned leaf. The next row is read only at the end of a row.
+    /// the returned leaf. At the end of a row it looks up the numbers of the row after the next
+    /// one, so that they are there when the walk comes to it.
     #[inline(always)]
     pub fn next_in<'a>(&'a self, id: LeafId, following: &mut Following<'a>) -> Option<LeafId>
         requires has { Has self.now.pairs id }
@@ -379,33 +382,59 @@ impl<K, V> Leaves<K, V> {
         if let Some(next) = following.run.split_off_first() {
             return Some(next);
         }
-        let rows = &self.rows;
-        let Some(row) = following.row else {
+        let _ = &self.rows;
+        let (first, run) = match following.first {
+            Some(first) => (Some(first), mem::replace(&mut following.rest, Run::empty())),
+            None => self.look_up(following.row),
+        };
+        let (Some(row), Some(next)) = (following.row, first) else {
             following.run = Run::empty();
+            following.row = None;
+            following.first = None;
             return self.next_of(id);
         };
-        let ids = rows.read(row);
-        let next = ids.at(0);
-        match ids.run_after(0) {
-            None => {
-                following.run = Run::empty();
-                following.row = None;
-            }
-            Some(run) => {
-                following.run = run;
-                following.row = self.row_after(row);
-            }
-        }
+        let after = self.row_after(row);
+        let (first, rest) = self.look_up(after);
+        following.run = run;
+        following.row = after;
+        following.first = first;
+        following.rest = rest;
         Some(next)
     }
 
-    /// Returns the row after another. The result goes in registers, so that no step of a walk
-    /// clears memory for it.
+    /// Returns the first number of a row, and the others, or no first number if there is no row, or
+    /// the numbers have high halves.
+    #[inline(always)]
+    fn look_up(&self, row: Option<usize>) -> (Option<LeafId>, Run<'_>)
+        requires { IfSome row (Has self.now.rows) }
+        ensures { IfSome row (IsLookedUp self.now.rows result.0 result.1) }
+    {
+        let Some(row) = row else {
+            return (None, Run::empty());
+        };
+        let mut run = self.run_of(row);
+        let first = run.split_off_first();
+        (first, run)
+    }
+
+    /// Returns all numbers of a row, or none if they have high halves. The result goes in
+    /// registers, so that no step of a walk clears memory for it.
+    #[cold]
+    #[inline(never)]
+    fn run_of(&self, row: usize) -> Run<'_>
+        requires { Has self.now.rows row }
+        ensures { (result ≡ []) ⊎ (leaf_in self.now.rows row ≡ Some result) }
+    {
+        self.rows.read(row).run()
+    }
+
+    /// Returns the row after another. The result goes in registers, too.
     #[cold]
     #[inline(never)]
     fn row_after(&self, row: usize) -> Option<usize>
         requires { Has self.now.rows row }
-        ensures { result ≡ number_after self.now.rows row }
+        ensures next { result ≡ number_after self.now.rows row }
+        ensures there { IfSome result (Has self.now.rows) }
     {
         self.rows.next_of(row)
     }

@@ -1,5 +1,5 @@
 //! A row of the numbers of cells.
-ghost use Rattle.std.specs.Prelude.{◌≡◌, ℕ, ◌+◌, ◌-◌, ◌*◌, ◌<◌, ◌≤◌, length, take, drop, Some, true, IfSome, IsSome, slice_index_or};
+ghost use Rattle.std.specs.Prelude.{◌≡◌, ◌⊎◌, ℕ, ◌+◌, ◌-◌, ◌*◌, ◌<◌, ◌≤◌, [], length, take, drop, Some, true, IfSome, IsSome, slice_index_or};
 ghost use Rattle.art_slots.specs.Words.{numbers as words, times};
 ghost use Rattle.art_rows.specs.Rows.{among, place_in, nth, nowhere};
 ghost use Rattle.art_rows.specs.Cells.{IsRow};
@@ -138,6 +138,16 @@ impl<'a> Row<'a> {
         } else {
             place_of_both(self.low, self.high, number)
         }
+    }
+
+    /// Returns all numbers, or none if they have high halves.
+    pub(crate) fn run(&self) -> Run<'a>
+        ensures { (result ≡ []) ⊎ (result ≡ self.now) }
+    {
+        if self.high.len() != 0 {
+            return Run::empty();
+        }
+        Run::new(&self.low[..self.count])
     }
 
     /// Returns the numbers after a place, or `None` if the numbers have high halves.

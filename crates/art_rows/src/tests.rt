@@ -8,7 +8,7 @@ use crate::leaves::{Leaf, Leaves};
 use crate::row::{Position, Row};
 use crate::rows::Rows;
 use crate::run::Run;
-use art_slots::Words;
+use art_slots::{LeafId, Words};
 use std::process::Abort;
 
 type Key = [u8; 3];
@@ -129,9 +129,17 @@ fn a_row_cut_in_half(rt: HostRuntime) {
             place.wrapping_add(96),
         );
     }
-    let Following { run, row } = leaves.following(id);
+    let mut following = leaves.following(id);
+    assert!(rt; leaves.next_in(id, &mut following) == Some(LeafId::new(1)));
+    let Following {
+        run,
+        row,
+        first,
+        rest,
+    } = following;
     let Run { low } = run;
-    assert!(rt; row == Some(1) && low.len() == 31 && low[0] == 1 && low[30] == 31);
+    assert!(rt; row == Some(1) && low.len() == 30 && low[0] == 2 && low[29] == 31);
+    assert!(rt; first == None && rest.low.len() == 0);
     let taken = leaves.take_first();
     assert!(rt; taken == Some((key_of(0), 0)));
     let taken = leaves.take_first();

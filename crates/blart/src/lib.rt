@@ -1,21 +1,10 @@
 //! An ordered map from keys that are byte lists, on an adaptive radix tree, and the program over
-//! it.
+//! it, under one name.
 //!
 //! [`TreeMap`] is the map and [`TreeSet`] the set. [`map`] and [`set`] have the types that go with
 //! them. A key type implements [`AsBytes`]. [`run`] is the program `artmap`, over any reader and
 //! writer.
 #![tactic(auto)]
-
-mod command;
-mod error;
-mod laws;
-mod output;
-mod pieces;
-mod program;
-mod replies;
-mod session;
-mod text;
-mod watched;
 
 pub use blart_keys::{
     AsBytes, CloneBytes, I32Key, I64Key, NoPrefixesBytes, Number, NumberKey, OrderedBytes, U16Key,
@@ -25,10 +14,7 @@ pub use blart_map as map;
 pub use blart_map::{InsertPrefixError, TreeMap, TryInsertError};
 pub use blart_set as set;
 pub use blart_set::TreeSet;
-pub use error::{RunError, fault_line};
-pub use laws::{key_text_law, number_text_law};
-pub use program::run;
-pub use watched::Watched;
+pub use line_program::{RunError, Watched, fault_line, key_text_law, number_text_law, run};
 
 /// A [`TreeMap`] whose inner nodes keep 16 bytes of their compressed prefixes.
 pub type Map<K, V> = TreeMap<K, V, { map::DEFAULT_PREFIX_LEN }>;

@@ -9,10 +9,10 @@
 
 mod bulk;
 mod calls;
-mod changes;
 mod compare;
 mod entries;
 mod entry;
+mod entry_calls;
 mod get_or_insert;
 mod inner;
 mod insertions;
@@ -21,11 +21,11 @@ mod laws;
 mod made;
 mod map;
 mod occupied;
-mod over;
-mod placing;
 mod prefix_entry;
+mod prefix_insert;
 mod prefix_kind;
 mod prefix_occupied;
+mod removals;
 mod reserved;
 mod retaining;
 mod vacant;

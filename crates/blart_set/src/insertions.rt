@@ -9,7 +9,7 @@ ghost use Rattle.blart_set.specs.Elements.{elements, RefusesElement, UpdatesElem
 ghost use Rattle.std.specs.Option.{is_none};
 ghost use Rattle.std.specs.Result.{result_map_both};
 
-use crate::changes::element_of;
+use crate::removals::element_of;
 use crate::set::TreeSet;
 use blart_keys::{AsBytes, NoPrefixesBytes, TryInsertError};
 use blart_map::TreeMap;

@@ -8,7 +8,6 @@
 #![tactic(auto)]
 
 mod bulk;
-mod changes;
 mod compare;
 mod extracting;
 mod insertions;
@@ -17,6 +16,7 @@ mod merge_laws;
 mod merges;
 mod operators;
 mod relations;
+mod removals;
 mod reserved;
 mod retaining;
 mod set;

@@ -1,10 +1,10 @@
-use Rattle.std.proofs.Common.{◌≡◌, ℕ, map, Some, sym, ap, ◌∙◌}
+use Rattle.std.proofs.Common.{◌≡◌, ℕ, map, [], Some, None, sym, ap, ◌∙◌}
 use Rattle.art_rows.specs.Leaves.{index_of}
 use Rattle.art_rows.specs.Numbers.{leaf_in}
 use Rattle.art_rows.specs.Rows.{nth, position_at}
 use Rattle.art_rows.proofs.FilingLemmas.{seen, seen_rows, has_row_at, place_at, number_there}
 use Rattle.art_rows.proofs.RowsLemmas.{among-numbers, nth-place}
-use Rattle.art_rows.proofs.Runs.{following_there, unknown_follows}
+use Rattle.art_rows.proofs.Runs.{following_there, unknown_follows, none_looked_up}
 use Rattle.art_rows.proofs.leaves.Leaves.following.Goals as goal
 
 pub read-requires : goal.read-requires
@@ -28,4 +28,4 @@ returns-in-Some g c =
     let p = c.position_of-position.result in
     let is : leaf_in c.args.self.now.rows p.row ≡ Some c.read.result = rw (← ap (λ t. t.rows) c.self.view_is) c.read.ensures in
     let there : nth c.read.result p.place ≡ Some c.args.id = sym (number_there f k p c.position_of-position.ensures c.read.result is) ∙ nth-place (map (λ q. q.0) ps) c.args.id (among-numbers ps c.args.id c.requires) in
-    following_there f k p c.position_of-position.ensures c.read.result is c.args.id there (record { run = c.in-Some.run'; row = c.row_after-row.result }) c.in-Some.ensures c.row_after-row.ensures
+    following_there f k p c.position_of-position.ensures c.read.result is c.args.id there (record { run = c.in-Some.run'; row = c.row_after.result; first = None; rest = c.empty.result }) c.in-Some.ensures c.row_after.ensures.next (none_looked_up c.args.self.now.rows c.row_after.result)

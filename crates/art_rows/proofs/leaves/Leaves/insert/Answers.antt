@@ -92,14 +92,14 @@ returns-in-None-row_after-clause-room g c =
     let at = spot-row c.args.self.now.rows _ c.in-Some.position s f.apart in
     let full = full_row s f.apart c.row_len.result c.row_len.ensures.len c.row_len.ensures.fits c.if-row_len-lt-ROW.false in
     let b = c.begin-in-None-row_after in
-    let none = sym c.row_after.ensures ∙ c.in-None-row_after.is in
+    let none = sym c.row_after.ensures.next ∙ c.in-None-row_after.is in
     let o = c.args.self.now in
     let n = b.new.self in
     let q = b.ensures.spare_rows in
     room_less (lengths o.rows) (lengths n.rows) o.spare_rows n.spare_rows (omega arith) (end_turns o.rows c.in-Some.position.row s.ids at full none n.rows b.ensures.rows.0 b.result o.spare_rows n.spare_rows b.ensures.rows.2 q)
 
 pub row_len-requires-in-Some-row_after : goal.row_len-requires-in-Some-row_after
-row_len-requires-in-Some-row_after g c = Has-after c.args.self.now.rows c.in-Some.position.row c.in-Some-row_after.next (sym c.row_after.ensures ∙ c.in-Some-row_after.is)
+row_len-requires-in-Some-row_after g c = Has-after c.args.self.now.rows c.in-Some.position.row c.in-Some-row_after.next (sym c.row_after.ensures.next ∙ c.in-Some-row_after.is)
 
 pub put-requires-in-Some-row_after-clause-spot : goal.put-requires-in-Some-row_after-clause-spot
 put-requires-in-Some-row_after-clause-spot g c =
@@ -107,7 +107,7 @@ put-requires-in-Some-row_after-clause-spot g c =
     let s = c.in-Some.ensures.some in
     let full = full_row s f.apart c.row_len.result c.row_len.ensures.len c.row_len.ensures.fits c.if-row_len-lt-ROW.false in
     let end = spot_end s f.apart (omega (arith, s.within, c.if-position-lt-ROW.false)) in
-    spot_next c.args.self.now.rows f.apart c.in-Some.position.row _ c.in-Some-row_after.next (spot_has s f.apart) end (sym c.row_after.ensures ∙ c.in-Some-row_after.is)
+    spot_next c.args.self.now.rows f.apart c.in-Some.position.row _ c.in-Some-row_after.next (spot_has s f.apart) end (sym c.row_after.ensures.next ∙ c.in-Some-row_after.is)
 
 pub returns-in-Some-row_after-clause-room : goal.returns-in-Some-row_after-clause-room
 returns-in-Some-row_after-clause-room g c =
@@ -115,7 +115,7 @@ returns-in-Some-row_after-clause-room g c =
     let s = c.in-Some.ensures.some in
     let full = full_row s f.apart c.row_len.result c.row_len.ensures.len c.row_len.ensures.fits c.if-row_len-lt-ROW.false in
     let end = spot_end s f.apart (omega (arith, s.within, c.if-position-lt-ROW.false)) in
-    let t = spot_next c.args.self.now.rows f.apart c.in-Some.position.row _ c.in-Some-row_after.next (spot_has s f.apart) end (sym c.row_after.ensures ∙ c.in-Some-row_after.is) in
+    let t = spot_next c.args.self.now.rows f.apart c.in-Some.position.row _ c.in-Some-row_after.next (spot_has s f.apart) end (sym c.row_after.ensures.next ∙ c.in-Some-row_after.is) in
     let b = c.put-in-Some-row_after in
     let o = c.args.self.now in
     let n = b.new.self in

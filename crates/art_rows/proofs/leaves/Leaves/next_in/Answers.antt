@@ -1,58 +1,53 @@
-use Rattle.std.proofs.Common.{◌≡◌, length, Some, refl, sym, ap, arith}
+use Rattle.std.proofs.Common.{◌≡◌, Some, sym, ap, ◌∙◌}
+use Rattle.std.specs.Prelude.{IfSome}
 use Rattle.art_rows.specs.Numbers.{leaf_in}
-use Rattle.art_rows.specs.Rows.{start_of}
-use Rattle.art_rows.proofs.FilingLemmas.{seen_rows, has_row_at, place_at}
-use Rattle.art_rows.proofs.Runs.{following_step, following_there, next_there, unknown_after}
-use Rattle.art_rows.proofs.leaves.Leaves.next_in.Goals.{in-None, in-Some-run_after}
+use Rattle.art_rows.specs.Rows.{IsLookedUp}
+use Rattle.art_rows.specs.declared.following.Following.{Following}
+use Rattle.art_rows.proofs.FilingLemmas.{seen_rows}
+use Rattle.art_rows.proofs.Runs.{following_step, next_row_there, row_entered}
+use Rattle.art_rows.proofs.leaves.Leaves.next_in.Goals.{in-Some-first, in-None}
 use Rattle.art_rows.proofs.leaves.Leaves.next_in.Goals as goal
 
 pub returns-in-Some-clause-next : goal.returns-in-Some-clause-next
-returns-in-Some-clause-next g c = sym (following_step c.args.self.now.pairs c.law.ensures.distinct c.args.id c.in-Some.next c.requires.has c.split_off_first.new.self c.args.self.now.rows c.args.following.now (record { run = c.split_off_first.new.self; row = c.args.following.now.row }) c.in-Some.ensures refl refl c.requires.following).0
+returns-in-Some-clause-next g c = sym (following_step c.args.self.now.pairs c.law.ensures.distinct c.args.id c.in-Some.next c.requires.has c.split_off_first.new.self c.args.self.now.rows c.args.following.now c.in-Some.ensures c.requires.following).0
 
 pub returns-in-Some-clause-following : goal.returns-in-Some-clause-following
-returns-in-Some-clause-following g c = (following_step c.args.self.now.pairs c.law.ensures.distinct c.args.id c.in-Some.next c.requires.has c.split_off_first.new.self c.args.self.now.rows c.args.following.now (record { run = c.split_off_first.new.self; row = c.args.following.now.row }) c.in-Some.ensures refl refl c.requires.following).1
+returns-in-Some-clause-following g c = (following_step c.args.self.now.pairs c.law.ensures.distinct c.args.id c.in-Some.next c.requires.has c.split_off_first.new.self c.args.self.now.rows c.args.following.now c.in-Some.ensures c.requires.following).1
 
-pub returns-in_default-row-clause-following : goal.returns-in_default-row-clause-following
-returns-in_default-row-clause-following g c = unknown_after c.args.self.now.pairs c.args.self.now.rows c.next_of.result _ c.empty-following.ensures c.in_default-row.is
-
-pub read-ids-requires : goal.read-ids-requires
-read-ids-requires g c =
+pub look_up-requires : goal.look_up-requires
+look_up-requires g c =
     let f = seen_rows c.self.inside c.self.view_is c.self.invariant in
-    rw (ap (λ t. t.rows) c.self.view_is) (has_row_at f _ (start_of c.in-Some-row.row) (rw c.in-Some-row.is at c.requires.following.row))
-
-pub at-next-requires : goal.at-next-requires
-at-next-requires g c =
-    let f = seen_rows c.self.inside c.self.view_is c.self.invariant in
-    let l : length c.args.following.now.run ≡ 0 = ap length c.in_default.ensures in
-    let at = rw c.in-Some-row.is at c.requires.following.row in
-    let is : leaf_in c.args.self.now.rows c.in-Some-row.row ≡ Some c.read-ids.result = rw (← ap (λ t. t.rows) c.self.view_is) c.read-ids.ensures in
-    place_at f _ (start_of c.in-Some-row.row) at c.read-ids.result is
-
-pub run_after-requires : goal.run_after-requires
-run_after-requires g c =
-    let f = seen_rows c.self.inside c.self.view_is c.self.invariant in
-    let l : length c.args.following.now.run ≡ 0 = ap length c.in_default.ensures in
-    let at = rw c.in-Some-row.is at c.requires.following.row in
-    let is : leaf_in c.args.self.now.rows c.in-Some-row.row ≡ Some c.read-ids.result = rw (← ap (λ t. t.rows) c.self.view_is) c.read-ids.ensures in
-    place_at f _ (start_of c.in-Some-row.row) at c.read-ids.result is
+    next_row_there f _ c.args.following.now.row c.requires.following.row
 
 -- the next number is the first of the next row
 pub returns-clause-next : goal.returns-clause-next
 returns-clause-next g c =
     let f = seen_rows c.self.inside c.self.view_is c.self.invariant in
-    let l : length c.args.following.now.run ≡ 0 = ap length c.in_default.ensures in
-    let at = rw c.in-Some-row.is at c.requires.following.row in
-    let is : leaf_in c.args.self.now.rows c.in-Some-row.row ≡ Some c.read-ids.result = rw (← ap (λ t. t.rows) c.self.view_is) c.read-ids.ensures in
-    sym (next_there f _ (start_of c.in-Some-row.row) at c.read-ids.result is c.at-next.result c.at-next.ensures c.args.id c.requires.has (omega arith))
+    let same : c.match-following.following.row ≡ c.args.following.now.row = elim c.match-following.branch [
+      | in-Some-first w ↦ ap (λ b. b.row) w.following-is
+      | in-None w ↦ ap (λ b. b.row) w.following-is
+    ] in
+    let named : c.args.following.now.row ≡ Some c.in-Some-Some.row = sym same ∙ c.in-Some-Some.is-0 in
+    let looked : IfSome c.args.following.now.row (IsLookedUp c.args.self.now.rows c.match-following.first.0 c.match-following.first.1) = elim c.match-following.branch [
+      | in-Some-first w ↦ rw (ap (λ t. t.0) w.first-is ∙ sym w.in-Some-first.is, ap (λ t. t.1) w.first-is ∙ w.replace.ensures.value) c.requires.following.ahead
+      | in-None w ↦ rw (ap (λ t. t.0) w.first-is, ap (λ t. t.1) w.first-is) w.look_up.ensures
+    ] in
+    let row : IsLookedUp c.args.self.now.rows c.match-following.first.0 c.match-following.first.1 c.in-Some-Some.row = rw named at looked in
+    let b : Following = record { run = c.match-following.first.1; row = c.row_after-after.result; first = c.look_up-first.result.0; rest = c.look_up-first.result.1 } in
+    sym (row_entered f c.args.id c.requires.has c.args.following.now c.requires.following c.in_default.ensures c.in-Some-Some.row c.in-Some-Some.next named b (rw c.in-Some-Some.is-1 at row) c.row_after-after.ensures.next c.look_up-first.ensures).0
 
 pub returns-clause-following : goal.returns-clause-following
 returns-clause-following g c =
     let f = seen_rows c.self.inside c.self.view_is c.self.invariant in
-    let l : length c.args.following.now.run ≡ 0 = ap length c.in_default.ensures in
-    let at = rw c.in-Some-row.is at c.requires.following.row in
-    let is : leaf_in c.args.self.now.rows c.in-Some-row.row ≡ Some c.read-ids.result = rw (← ap (λ t. t.rows) c.self.view_is) c.read-ids.ensures in
-    let next = c.at-next.result in
-    elim c.match-run_after.branch [
-      | in-None w ↦ rw w.following-is (unknown_after c.args.self.now.pairs c.args.self.now.rows (Some next) _ w.empty-following-in-None.ensures refl)
-      | in-Some-run_after w ↦ rw w.following-is (following_there f _ (start_of c.in-Some-row.row) at c.read-ids.result is next c.at-next.ensures _ w.in-Some-run_after.ensures w.row_after-following.ensures)
-    ]
+    let same : c.match-following.following.row ≡ c.args.following.now.row = elim c.match-following.branch [
+      | in-Some-first w ↦ ap (λ b. b.row) w.following-is
+      | in-None w ↦ ap (λ b. b.row) w.following-is
+    ] in
+    let named : c.args.following.now.row ≡ Some c.in-Some-Some.row = sym same ∙ c.in-Some-Some.is-0 in
+    let looked : IfSome c.args.following.now.row (IsLookedUp c.args.self.now.rows c.match-following.first.0 c.match-following.first.1) = elim c.match-following.branch [
+      | in-Some-first w ↦ rw (ap (λ t. t.0) w.first-is ∙ sym w.in-Some-first.is, ap (λ t. t.1) w.first-is ∙ w.replace.ensures.value) c.requires.following.ahead
+      | in-None w ↦ rw (ap (λ t. t.0) w.first-is, ap (λ t. t.1) w.first-is) w.look_up.ensures
+    ] in
+    let row : IsLookedUp c.args.self.now.rows c.match-following.first.0 c.match-following.first.1 c.in-Some-Some.row = rw named at looked in
+    let b : Following = record { run = c.match-following.first.1; row = c.row_after-after.result; first = c.look_up-first.result.0; rest = c.look_up-first.result.1 } in
+    (row_entered f c.args.id c.requires.has c.args.following.now c.requires.following c.in_default.ensures c.in-Some-Some.row c.in-Some-Some.next named b (rw c.in-Some-Some.is-1 at row) c.row_after-after.ensures.next c.look_up-first.ensures).1

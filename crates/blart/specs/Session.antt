@@ -1,8 +1,0 @@
--- What a clause reads of a session.
-use Rattle.blart.specs.declared.session.Session.{Session}
-use Rattle.blart.specs.Content.{content_of}
-use Rattle.blart.specs.Serves.{State}
-
--- the line so far, the content and what waits
-abbrev pub state_of : Session → State
-state_of s = record { line = s.line.items; content = content_of s.map; waiting = s.outbox }

@@ -1,0 +1,46 @@
+-- Keys and numbers are read back as they are written.
+use Rattle.std.proofs.Common.{◌≡◌, ◌≢◌, ℕ, ◌*◌, ◌<◌, ◌≤◌, List, [], ◌∷◌, length, Bool, true, false, Some, refl, sym, ap, arith}
+use Rattle.std.specs.Prelude.{bytes_eq, codes, decimal, nat_le, ◌==◌}
+use Rattle.std.specs.List.{list_all}
+use Rattle.std.specs.Char.{is_ascii_digit, digit_value}
+use Rattle.std.specs.Str.Parse.{AllDigits}
+use Rattle.std.proofs.lemmas.Bool.{ne_eqb}
+use Rattle.std.proofs.lemmas.Bool.Decides.{nat_tests}
+use Rattle.std.proofs.lemmas.Slice.Eq.{bytes_eq-Decides}
+use Rattle.std.proofs.lemmas.Fmt.{decimal_is_IsNumeral, length-decimal-le}
+use Rattle.hex.specs.Hex.{IsBytes, encode_lower, lower_digits}
+use Rattle.hex.proofs.HexLemmas.{length-encode_with, decode_of-encode_lower}
+use Rattle.line_program.specs.Command.{key_of, is_numeral, number_of}
+use Rattle.line_program.specs.Answers.{key_text}
+use Rattle.line_program.proofs.Numbers.{below_limit_small}
+
+by_length : (a b : List ℕ) (t : Bool) → length a ≢ length b → bytes_eq a b ≡ t → bytes_eq a b ≡ false
+by_length a b true apart is = absurd (apart (ap length ((bytes_eq-Decides a b).0 is)))
+by_length a b false apart is = is
+
+-- a key that is written is read back
+pub key_of-key_text : (key : List ℕ) → IsBytes key → key_of (key_text key) ≡ Some key
+key_of-key_text [] small = refl
+key_of-key_text (b ∷ key) small =
+    let text = encode_lower (b ∷ key) in
+    let long : length text ≡ 2 * length (b ∷ key) = length-encode_with lower_digits (b ∷ key) in
+    let other : bytes_eq text (codes "-") ≡ false = by_length text (codes "-") (bytes_eq text (codes "-")) (λ e. omega arith) refl in
+    let some : (length text == 0) ≡ false = ne_eqb (length text) 0 (λ e. omega arith) in
+    rw (other, some, decode_of-encode_lower (b ∷ key) small) refl
+
+decimal_digit : (c : ℕ) → digit_value c < 10 → is_ascii_digit c ≡ true
+decimal_digit c h = grind (arith, nat_tests)
+
+all_decimal : (text : List ℕ) → AllDigits 10 text → list_all is_ascii_digit text ≡ true
+all_decimal [] h = refl
+all_decimal (c ∷ text) h = rw (decimal_digit c h.0) (all_decimal text h.1)
+
+-- so is a number
+pub number_of-decimal : (n : ℕ) → n ≤ 18446744073709551615 → number_of (decimal n) ≡ Some n
+number_of-decimal n fits =
+    let ((some, digits), value) = decimal_is_IsNumeral n (omega arith) in
+    let short = length-decimal-le 20 n (omega arith) (omega arith) (omega arith) in
+    let least : nat_le 1 (length (decimal n)) ≡ true = grind (arith, nat_tests) in
+    let most : nat_le (length (decimal n)) 20 ≡ true = grind (arith, nat_tests) in
+    let numeral : is_numeral (decimal n) ≡ true = rw (least, most, all_decimal (decimal n) digits) refl in
+    rw (numeral, value) (sym (below_limit_small n fits))

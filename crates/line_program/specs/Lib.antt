@@ -1,0 +1,15 @@
+pub mod Watched
+pub mod Faults
+pub mod Lines
+pub mod Command
+pub mod Answers
+pub mod Replies
+pub mod RunEnds
+pub mod Content
+pub mod Sent
+pub mod Texts
+pub mod Parsed
+pub mod Replied
+pub mod Serves
+pub mod Session
+pub mod Ran
