@@ -1,18 +1,17 @@
 -- Pairs that ascend by their bytes: what is found in them, and how many there are.
-use Rattle.std.proofs.Common.{◌≡◌, ◌≢◌, ℕ, suc, ◌+◌, ◌<◌, ◌≤◌, ◌⊎◌, inl, inr, Bool, true, false, not, ◌||◌, List, [], ◌∷◌, length, refl, sym, ap, ◌∙◌, subst, arith, Option, Some, None, is_some, cond, bytes_eq, filter, if◌then◌else◌}
-use Rattle.std.proofs.lemmas.Bool.{false≢true, cases_Bool, cond-true, cond-false, not-true, not_from_false, not_from_true, false_from_ne_true}
+use Rattle.std.proofs.Common.{◌≡◌, ◌≢◌, ℕ, ◌+◌, ◌<◌, ◌≤◌, inl, inr, Bool, true, false, not, List, [], ◌∷◌, length, refl, sym, ap, ◌∙◌, arith, Option, Some, None, is_some, bytes_eq, if◌then◌else◌}
+use Rattle.std.proofs.lemmas.Bool.{false≢true, cases_Bool, not-true, not_from_false, false_from_ne_true}
 use Rattle.std.specs.Cmp.Lexicographic.{bytes_decides}
 use Rattle.blart_keys.specs.Bytes.{begins, less}
-use Rattle.blart_keys.specs.Content.{Ascends, at, without}
+use Rattle.blart_keys.specs.Content.{Ascends, without}
 use Rattle.blart_keys.specs.KeyLaws.{begins_length, begins_same_length}
 use Rattle.blart_keys.specs.Stored.{bytes, pair_at, has, Updates}
 use Rattle.blart_keys.proofs.ByteLemmas.{fronts_related}
 use Rattle.blart_keys.proofs.ContentLemmas.{at_Some, at_None, at_absent}
-use Rattle.blart_keys.proofs.PartLemmas.{less-irrefl, less-trans, less-same, less_or}
-use Rattle.blart_keys.proofs.RankLemmas.{Member, Ranked, Ranked-from_AllPairs, AllPairs-from_Ranked, Ranked-cases, Ranked-filter, same_list, each_member, from_each_member, filter_member, member_filter, filter_all, find_only}
+use Rattle.blart_keys.proofs.PartLemmas.{less-irrefl, less-trans, less-same}
+use Rattle.blart_keys.proofs.RankLemmas.{Member, Ranked, Ranked-from_AllPairs, AllPairs-from_Ranked, Ranked-cases, Ranked-filter, same_list, each_member, filter_member, member_filter, filter_all, find_only}
 use Rattle.std.proofs.lemmas.Bool.{and_parts, or_cases}
 use Rattle.std.proofs.Common.{eqb, eqb-true}
-use Rattle.prefix_router.specs.Tables.{placed, in_byte_order}
 
 -- ---- prefixes of one list
 

@@ -1,15 +1,14 @@
 -- The best pair of a list: of two lists side by side, and of a content.
-use Rattle.std.proofs.Common.{◌≡◌, ℕ, ◌<◌, ◌≤◌, ◌⊎◌, inl, inr, Bool, true, false, ltb, leb, ◌&&◌, List, [], ◌∷◌, ◌++◌, length, refl, sym, ap, ◌∙◌, subst, arith, Option, Some, None, cond, bytes_eq, filter, if◌then◌else◌}
+use Rattle.std.proofs.Common.{◌≡◌, ℕ, ◌<◌, ◌≤◌, ◌⊎◌, inl, inr, Bool, true, false, leb, ◌&&◌, List, [], ◌∷◌, ◌++◌, length, refl, sym, ap, ◌∙◌, subst, arith, Option, Some, None, bytes_eq}
 use Rattle.std.proofs.lemmas.Bool.{false≢true, cases_Bool, cases_lt, cond-true, cond-false, and_parts, and_from, lt-ltb, ltb-true, le-leb, leb-true, not-true, false_from_ne_true}
 use Rattle.std.specs.declared.ops.Bound.{Bound}
 use Rattle.std.specs.declared.ops.Bound.TheVariants.{Included, Excluded, Unbounded}
-use Rattle.std.specs.Cmp.Lexicographic.{bytes_decides}
 use Rattle.blart_keys.specs.Bounds.{is_from_start, is_up_to_end}
 use Rattle.blart_keys.specs.Bytes.{begins, less}
-use Rattle.blart_keys.specs.Content.{IsContent, Ascends, at, between}
+use Rattle.blart_keys.specs.Content.{IsContent, at, between}
 use Rattle.blart_keys.specs.Stored.{bytes, pair_at, pair_at_front}
 use Rattle.blart_keys.proofs.ByteLemmas.{fronts_related}
-use Rattle.blart_keys.proofs.ContentLemmas.{same_item, at_Some, at_None, at_member, at_absent, front_of_Some, front_of_None}
+use Rattle.blart_keys.proofs.ContentLemmas.{same_item, at_member, at_absent, front_of_Some, front_of_None}
 use Rattle.blart_keys.proofs.PartLemmas.{less-irrefl, less-trans, less_or, begins_between}
 use Rattle.blart_keys.proofs.RankLemmas.{Member, Ranked, Ranked-from_AllPairs, Ranked-filter, each_member, filter_member, member_filter}
 use Rattle.prefix_router.specs.Best.{IsBest, is_longer, is_shorter, better, StartsUnder}

@@ -1,8 +1,8 @@
 -- The mounts of some tables in byte order: what they have, how many there are, and what a change
 -- makes of them.
-use Rattle.std.proofs.Common.{◌≡◌, ◌≢◌, ℕ, ◌+◌, ◌-◌, ◌<◌, ◌≤◌, ◌⊎◌, inl, inr, Bool, true, false, not, ltb, List, [], ◌∷◌, length, take, get_or, refl, sym, ap, ◌∙◌, subst, arith, Option, Some, None, option_map, is_some, position, flat_map, Vec, if◌then◌else◌}
+use Rattle.std.proofs.Common.{◌≡◌, ◌≢◌, ℕ, ◌+◌, ◌-◌, ◌≤◌, Bool, true, false, List, [], ◌∷◌, length, refl, sym, ap, ◌∙◌, subst, arith, Option, Some, None, option_map, is_some, position, flat_map, Vec, if◌then◌else◌}
 use Rattle.std.specs.Global.{Global}
-use Rattle.std.proofs.lemmas.Bool.{false≢true, cases_Bool, cond-true, ltb-false, not-true, false_from_ne_true}
+use Rattle.std.proofs.lemmas.Bool.{false≢true, false_from_ne_true}
 use Rattle.blart_map.specs.Content.{Numbered}
 use Rattle.blart_keys.specs.Bytes.{begins, related}
 use Rattle.blart_keys.specs.KeyBytes.{vec_bytes}

@@ -1,18 +1,18 @@
 -- One of some lists is replaced or removed: what all of them have then.
-use Rattle.std.proofs.Common.{◌≡◌, ◌≢◌, ℕ, zero, suc, ◌+◌, ◌<◌, ◌≤◌, ◌⊎◌, inl, inr, Bool, true, false, not, ltb, List, [], ◌∷◌, ◌++◌, take, drop, set, remove, get_or, length, length-append, append-nil, refl, sym, ap, ◌∙◌, subst, arith, Option, Some, None, option_map, is_some, position, flat_map, if◌then◌else◌}
+use Rattle.std.proofs.Common.{◌≡◌, ◌≢◌, ℕ, zero, suc, ◌+◌, ◌<◌, ◌≤◌, Bool, true, false, not, ltb, List, [], ◌∷◌, ◌++◌, take, drop, set, remove, get_or, length, length-append, append-nil, refl, sym, ap, ◌∙◌, subst, arith, Option, Some, None, option_map, is_some, position, flat_map, if◌then◌else◌}
 use Rattle.std.specs.List.{position_or_len}
-use Rattle.std.proofs.lemmas.Bool.{false≢true, cond-true, cond-false, lt-ltb, ltb-true, not-false, not-true, false_from_ne_true}
+use Rattle.std.proofs.lemmas.Bool.{false≢true, cond-true, cond-false, lt-ltb, ltb-true, not-false, false_from_ne_true}
 use Rattle.std.proofs.lemmas.Grind.{flat_map-append}
 use Rattle.std.proofs.lemmas.List.Quantifiers.{position-Some}
 use Rattle.blart_keys.specs.Content.{IsContent}
 use Rattle.blart_keys.specs.declared.calls.TryInsertError.{TryInsertError}
 use Rattle.blart_keys.specs.declared.calls.TryInsertError.TheVariants.{Prefix, Memory}
-use Rattle.blart_keys.specs.Stored.{bytes, pair_at, value_at, has, kept, kept_pair, overlaps, Updates, Refuses}
+use Rattle.blart_keys.specs.Stored.{bytes, pair_at, value_at, has, overlaps, Updates, Refuses}
 use Rattle.blart_keys.proofs.ContentLemmas.{at_Some, conflict_found, conflict_member, stored_no_conflict}
 use Rattle.blart_keys.proofs.StoredLemmas.{is_some-map}
 use Rattle.blart_keys.proofs.RankLemmas.{Member, Member-append_left, Member-append_right}
 use Rattle.prefix_router.proofs.BestLemmas.{pair_at-left, pair_at-right}
-use Rattle.prefix_router.proofs.TableLemmas.{flat_split, flat_set, flat_remove, none_append, found_at, value_found_at}
+use Rattle.prefix_router.proofs.TableLemmas.{flat_split, flat_set, flat_remove, none_append, found_at}
 
 -- what a search for a place returns, in terms of equal arguments
 pub told : {X : Type 0} (test : List ℕ → X → Bool) (xs ys : List X) (path q : List ℕ) (o : Option ℕ) → ys ≡ xs → q ≡ path → o ≡ position (test q) ys → position (test path) xs ≡ o

@@ -1,5 +1,5 @@
 -- The mounts of some tables.
-use Rattle.std.proofs.Common.{◌≡◌, ◌≢◌, ℕ, suc, ◌+◌, ◌<◌, ◌≤◌, ◌⊎◌, inl, inr, Bool, true, false, List, [], ◌∷◌, ◌++◌, append-nil, take, get_or, set, length, refl, sym, ap, ◌∙◌, subst, arith, Option, Some, None, flat_map, IfSome, remove, zero, drop, append_assoc, option_map}
+use Rattle.std.proofs.Common.{◌≡◌, ℕ, suc, ◌+◌, ◌<◌, ◌≤◌, Bool, List, [], ◌∷◌, ◌++◌, append-nil, take, get_or, set, length, refl, sym, ap, ◌∙◌, subst, arith, Option, Some, None, flat_map, IfSome, remove, zero, drop, append_assoc, option_map}
 use Rattle.std.proofs.Math.Seq.{take-suc}
 use Rattle.std.proofs.lemmas.Grind.{flat_map-append}
 use denote.Ref.{Bor}

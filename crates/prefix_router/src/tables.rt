@@ -67,9 +67,13 @@ pub(crate) fn add<V: Drop>(
     match free_table(tables, path.as_slice()) {
         Some(place) => put(&mut tables[place], path, target),
         None => {
+            tables.reserve(1)?;
             let mut table = TreeMap::new(alloc);
-            put(&mut table, path, target)?;
-            tables.push(table)?;
+            if let Err(error) = put(&mut table, path, target) {
+                drop(table);
+                return Err(error);
+            }
+            tables.push_reserved(table);
             Ok(())
         }
     }

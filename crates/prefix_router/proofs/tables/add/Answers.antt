@@ -1,12 +1,11 @@
-use Rattle.std.proofs.Common.{◌≡◌, ◌∙◌, ap, sym, arith, List, ℕ, [], ◌∷◌, ◌++◌, Vec, Some, None, Option, not, Bool, true, position, set, length, ◌+◌, max, ◌≤◌, refl, Result, Ok, Err, OnOk, length-append, subst}
+use Rattle.std.proofs.Common.{◌≡◌, ◌∙◌, ap, sym, arith, List, [], ◌∷◌, ◌++◌, Some, None, not, length, ◌+◌, Result, Ok, Err, OnOk, length-append, subst}
 use Rattle.std.proofs.lemmas.Bool.{not-true}
 use Rattle.std.proofs.lemmas.List.Quantifiers.{position-Some}
-use Rattle.std.specs.Global.{Global}
 use Rattle.blart_keys.specs.KeyBytes.{vec_bytes}
-use Rattle.blart_keys.specs.Stored.{pair_at, overlaps, Updates}
+use Rattle.blart_keys.specs.Stored.{overlaps, Updates}
 use Rattle.blart_map.specs.Content.{pairs}
 use Rattle.prefix_router.specs.Tables.{all_mounts}
-use Rattle.prefix_router.proofs.PlaceLemmas.{told, place_free, updates_at, length_at, no_lists, nothing_overlaps, updates_push, length_push}
+use Rattle.prefix_router.proofs.PlaceLemmas.{told, place_free, updates_at, length_at, no_lists, nothing_overlaps, updates_push}
 use Rattle.prefix_router.proofs.tables.add.Goals as goal
 
 -- a fact that follows if there is a value
@@ -43,14 +42,16 @@ returns-in-Some-clause-len g c =
     let more = length_at vec_bytes pairs c.args.tables.now.items c.in-Some.place c.index_mut.result.now c.put.new.table first.0 c.index_mut.ensures.value in
     on_ok c.put.result (λ e. omega (arith, more, e)) c.put.ensures.len
 
-pub returns-in_ok-push-in-None-clause-updates : goal.returns-in_ok-push-in-None-clause-updates
-returns-in_ok-push-in-None-clause-updates g c =
-    subst (λ xs. Updates vec_bytes (all_mounts c.args.tables.now.items) (all_mounts xs) c.args.path.items (Some (c.args.path, c.args.target))) (sym c.in_ok-push-in-None.ensures.items)
-    (updates_push vec_bytes pairs c.args.tables.now.items c.put-in-None.new.table (pairs c.new-table.result) c.args.path.items (c.args.path, c.args.target) c.requires c.new-table.ensures.nothing c.in_ok-put-in-None.ensures.updates)
+pub returns-in_default-clause-updates : goal.returns-in_default-clause-updates
+returns-in_default-clause-updates g c =
+    let items : c.push_reserved.new.self.items ≡ c.args.tables.now.items ++ c.put-in-None.new.table ∷ [] = c.push_reserved.ensures.items ∙ ap (λ (ts : List _). ts ++ c.put-in-None.new.table ∷ []) c.reserve.ensures.items in
+    subst (λ ts. Updates vec_bytes (all_mounts c.args.tables.now.items) (all_mounts ts) c.args.path.items (Some (c.args.path, c.args.target))) (sym items)
+    (updates_push vec_bytes pairs c.args.tables.now.items c.put-in-None.new.table (pairs c.new-table.result) c.args.path.items (c.args.path, c.args.target) c.requires c.new-table.ensures.nothing c.in_default.ensures.updates)
 
-pub returns-in_ok-push-in-None-clause-flat : goal.returns-in_ok-push-in-None-clause-flat
-returns-in_ok-push-in-None-clause-flat g c free =
+pub returns-in_default-clause-flat : goal.returns-in_default-clause-flat
+returns-in_default-clause-flat g c free =
     let place = told (λ q t. not (overlaps vec_bytes (pairs t) q)) c.args.tables.now.items c.deref.result.now c.args.path.items c.as_slice.result.now None c.deref.ensures.value c.as_slice.ensures.value c.in-None.ensures in
     let none = no_lists vec_bytes pairs c.args.tables.now.items c.args.path.items place free in
-    let more : length c.push.new.self.items ≡ length c.args.tables.now.items + 1 = ap (λ (xs : List _). length xs) c.in_ok-push-in-None.ensures.items ∙ length-append c.args.tables.now.items _ in
+    let items : c.push_reserved.new.self.items ≡ c.args.tables.now.items ++ c.put-in-None.new.table ∷ [] = c.push_reserved.ensures.items ∙ ap (λ (ts : List _). ts ++ c.put-in-None.new.table ∷ []) c.reserve.ensures.items in
+    let more : length c.push_reserved.new.self.items ≡ length c.args.tables.now.items + 1 = ap (λ (ts : List _). length ts) items ∙ length-append c.args.tables.now.items _ in
     omega (arith, none, more)

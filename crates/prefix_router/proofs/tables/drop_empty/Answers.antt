@@ -1,4 +1,4 @@
-use Rattle.std.proofs.Common.{◌∙◌, ap, sym, ◌==◌, eqb-true, length}
+use Rattle.std.proofs.Common.{◌∙◌, ap, sym, eqb-true, length}
 use Rattle.blart_keys.specs.KeyBytes.{vec_bytes}
 use Rattle.blart_map.specs.Content.{pairs}
 use Rattle.prefix_router.specs.Tables.{all_mounts}

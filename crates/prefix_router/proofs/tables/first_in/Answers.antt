@@ -1,4 +1,4 @@
-use Rattle.std.proofs.Common.{◌≡◌, ◌∙◌, ap, sym, List, ℕ, Bool, true, false, nat_eq, Some, None}
+use Rattle.std.proofs.Common.{◌≡◌, ◌∙◌, ap, sym, List, ℕ, Bool, nat_eq}
 use Rattle.std.specs.List.{starts_with}
 use Rattle.std.specs.Range.Bound.{bound_map}
 use Rattle.std.specs.declared.ops.Bound.{Bound}
@@ -13,7 +13,6 @@ use Rattle.blart_keys.proofs.ByteLemmas.{begins_starts_with}
 use Rattle.blart_map.specs.Content.{pairs}
 use Rattle.prefix_router.proofs.BestLemmas.{first_under, first_not_under, none_under}
 use Rattle.prefix_router.proofs.tables.first_in.Goals as goal
-use Rattle.prefix_router.proofs.tables.first_in.Given.{Over}
 
 -- a bound that refers to the bytes of another is at the same bytes
 same_bound : (b : Bound (Bor (Bor (List ℕ)))) (low : Bound (Bor (List ℕ))) → bound_map (λ x. x.now) b ≡ low → bound_bytes slice_bytes b ≡ slice_bound low

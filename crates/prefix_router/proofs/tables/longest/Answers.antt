@@ -1,4 +1,4 @@
-use Rattle.std.proofs.Common.{arith, length, ◌+◌, ◌*◌}
+use Rattle.std.proofs.Common.{arith}
 use Rattle.blart_keys.specs.Bytes.{begins}
 use Rattle.blart_keys.specs.KeyBytes.{vec_bytes}
 use Rattle.blart_keys.specs.Stored.{shown}

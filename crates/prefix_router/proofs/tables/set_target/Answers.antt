@@ -1,11 +1,11 @@
-use Rattle.std.proofs.Common.{◌≡◌, ◌∙◌, ap, sym, arith, Option, Some, None, Vec, ℕ, subst, option_map, is_some, List, length, set}
+use Rattle.std.proofs.Common.{◌∙◌, ap, sym, Option, Some, Vec, ℕ, subst, option_map, is_some, set}
 use Rattle.std.specs.Global.{Global}
 use Rattle.blart_keys.specs.KeyBytes.{vec_bytes}
 use Rattle.blart_keys.specs.Stored.{kept_pair, pair_at, Updates}
 use Rattle.blart_keys.proofs.StoredLemmas.{is_some-map}
 use Rattle.blart_map.specs.Content.{pairs}
 use Rattle.prefix_router.specs.Tables.{all_mounts}
-use Rattle.prefix_router.proofs.PlaceLemmas.{IsAt, place_of, found_place, updates_at, length_kept, not_refused}
+use Rattle.prefix_router.proofs.PlaceLemmas.{place_of, found_place, updates_at, length_kept, not_refused}
 use Rattle.prefix_router.proofs.tables.set_target.Goals as goal
 
 pub returns-clause-old : goal.returns-clause-old

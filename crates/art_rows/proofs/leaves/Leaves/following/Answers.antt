@@ -1,4 +1,4 @@
-use Rattle.std.proofs.Common.{◌≡◌, ℕ, map, [], Some, None, sym, ap, ◌∙◌}
+use Rattle.std.proofs.Common.{◌≡◌, ℕ, map, Some, None, sym, ap, ◌∙◌}
 use Rattle.art_rows.specs.Leaves.{index_of}
 use Rattle.art_rows.specs.Numbers.{leaf_in}
 use Rattle.art_rows.specs.Rows.{nth, position_at}

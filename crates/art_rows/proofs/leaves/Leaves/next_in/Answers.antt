@@ -1,6 +1,5 @@
 use Rattle.std.proofs.Common.{◌≡◌, Some, sym, ap, ◌∙◌}
 use Rattle.std.specs.Prelude.{IfSome}
-use Rattle.art_rows.specs.Numbers.{leaf_in}
 use Rattle.art_rows.specs.Rows.{IsLookedUp}
 use Rattle.art_rows.specs.declared.following.Following.{Following}
 use Rattle.art_rows.proofs.FilingLemmas.{seen_rows}

@@ -1,5 +1,4 @@
-use Rattle.std.proofs.Common.{rules, ◌≡◌, ◌∙◌, ◌+◌, ◌<◌, ◌&&◌, ap, sym, arith, length, leb, filter, List, ◌∷◌, None}
-use Rattle.std.specs.Iterator.{YieldsFirstBy}
+use Rattle.std.proofs.Common.{rules, ◌≡◌, ◌∙◌, ◌+◌, ◌&&◌, ap, sym, arith, length, leb, filter, ◌∷◌}
 use Rattle.blart_keys.specs.Bytes.{begins}
 use Rattle.blart_keys.specs.KeyBytes.{vec_bytes}
 use Rattle.prefix_router.proofs.AscendingLemmas.{ranked_from}

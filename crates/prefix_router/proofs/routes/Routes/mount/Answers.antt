@@ -1,4 +1,4 @@
-use Rattle.std.proofs.Common.{◌≡◌, ◌∙◌, ap, sym, subst, arith, length, Some, None, true, false, List, Vec, ℕ, Option, option_map, is_some, position, Result, Ok, Err, OnErr}
+use Rattle.std.proofs.Common.{◌∙◌, ap, sym, subst, Some, None, List, Vec, ℕ, Option, option_map, is_some, Result, Ok, Err, OnErr}
 use Rattle.std.specs.Global.{Global}
 use Rattle.blart_keys.specs.KeyBytes.{vec_bytes}
 use Rattle.blart_keys.specs.Stored.{pair_at, has, kept, kept_pair, Updates}

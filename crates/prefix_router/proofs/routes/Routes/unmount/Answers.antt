@@ -1,4 +1,4 @@
-use Rattle.std.proofs.Common.{◌≡◌, ◌∙◌, ap, sym, subst, length, Some, None, refl, ◌+◌, List, Vec, ℕ, Option, option_map, ◌≢◌}
+use Rattle.std.proofs.Common.{◌≡◌, ◌∙◌, ap, sym, length, None, refl, ◌+◌, List, Vec, ℕ, option_map}
 use Rattle.std.specs.Global.{Global}
 use Rattle.blart_keys.specs.KeyBytes.{vec_bytes}
 use Rattle.blart_keys.specs.Stored.{pair_at, has}
@@ -6,7 +6,6 @@ use Rattle.blart_map.specs.Content.{pairs}
 use Rattle.prefix_router.proofs.AscendingLemmas.{ranked_from}
 use Rattle.prefix_router.proofs.MountsLemmas.{absent_path, Unmounts, unmounts, unmounts_nothing}
 use Rattle.prefix_router.proofs.PlaceLemmas.{told}
-use Rattle.prefix_router.specs.Tables.{all_mounts}
 use Rattle.prefix_router.proofs.routes.Routes.unmount.Goals as goal
 use Rattle.prefix_router.proofs.routes.Routes.unmount.Goals.{After-drop_empty, After-from_residual}
 use Rattle.prefix_router.proofs.routes.Routes.unmount.Given.{Over}

@@ -1,6 +1,4 @@
-use Rattle.std.proofs.Common.{rules, ◌≡◌, ◌∙◌, ◌&&◌, ap, sym, filter, List, ◌∷◌, None}
-use Rattle.std.proofs.lemmas.Bool.{and_parts}
-use Rattle.std.specs.Iterator.{YieldsFirstBy}
+use Rattle.std.proofs.Common.{rules, ◌∙◌, ◌&&◌, ap, sym, filter, ◌∷◌}
 use Rattle.blart_keys.specs.Bounds.{is_from_start, slice_bound}
 use Rattle.blart_keys.specs.Bytes.{begins, less}
 use Rattle.blart_keys.specs.KeyBytes.{vec_bytes}
