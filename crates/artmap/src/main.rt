@@ -1,7 +1,7 @@
 //! Runs the command on each line of standard input, and writes its result to standard output.
 #![tactic(auto)]
 
-use line_program::{RunError, Watched, fault_line, run};
+use blart::{RunError, Watched, fault_line, run};
 use std::io::Write;
 use std::process::ExitCode;
 

@@ -6,6 +6,8 @@
 //! writer.
 #![tactic(auto)]
 
+mod faults;
+
 pub use blart_keys::{
     AsBytes, CloneBytes, I32Key, I64Key, NoPrefixesBytes, Number, NumberKey, OrderedBytes, U16Key,
     U32Key, U64Key, U128Key, ZKey, ZKeyError, ZQuery, ZStr,
@@ -14,7 +16,8 @@ pub use blart_map as map;
 pub use blart_map::{InsertPrefixError, TreeMap, TryInsertError};
 pub use blart_set as set;
 pub use blart_set::TreeSet;
-pub use line_program::{RunError, Watched, fault_line, key_text_law, number_text_law, run};
+pub use faults::fault_line;
+pub use line_program::{RunError, Watched, key_text_law, number_text_law, run};
 
 /// A [`TreeMap`] whose inner nodes keep 16 bytes of their compressed prefixes.
 pub type Map<K, V> = TreeMap<K, V, { map::DEFAULT_PREFIX_LEN }>;

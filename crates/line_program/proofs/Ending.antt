@@ -9,16 +9,16 @@ use Rattle.std.proofs.lemmas.Grind.{flat_map-append}
 use Rattle.std.proofs.KnownBytes.{Consumes-trans}
 use Rattle.line_program.proofs.Stepping.{Stops-after}
 use Rattle.line_program.proofs.Sending.{Sends-trans}
-use Rattle.line_program.proofs.Serving.{Answers-one, Answers-append, Reply-exists, Splits-exist}
+use Rattle.line_program.proofs.Serving.{RepliesInTurn-one, RepliesInTurn-append, Reply-exists, Splits-exist}
 use Rattle.line_program.specs.declared.error.RunError.{RunError}
 use Rattle.line_program.specs.declared.error.RunError.TheVariants.{Read, Write, Memory}
 use Rattle.line_program.specs.Lines.{IsLine, ended, Splits, with_last}
-use Rattle.line_program.specs.Answers.{Pairs}
-use Rattle.line_program.specs.Replies.{AnswersInTurn, Replies, BeginsReplies}
+use Rattle.line_program.specs.Results.{Pairs}
+use Rattle.line_program.specs.Replies.{RepliesInTurn, Replies, BeginsReplies}
 use Rattle.line_program.specs.RunEnds.{RunEnds, IsMarked}
 use Rattle.line_program.specs.Sent.{Sends, IsSent}
-use Rattle.line_program.specs.Serves.{State, Serves, Stops, IsAnswering, IsAnswered}
-use Rattle.line_program.specs.Ran.{IsReadAll, IsLastAnswered, IsFinished}
+use Rattle.line_program.specs.Serves.{State, Serves, Stops, IsReplying, IsLineReplied}
+use Rattle.line_program.specs.Ran.{IsReadAll, IsLastReplied, IsFinished}
 
 -- ---- the last line
 
@@ -33,45 +33,45 @@ sent_all {a} {b} {bytes} left e s = subst (Sends a b bytes) e s
 pub last_none : (before after : Option (List ℕ)) (mark : Bool) (r : Result (Unit {0}) RunError) (old : State) (left : List ℕ) → old.line ≡ []
     → IsSent r before after mark old.waiting left → OnOk r (left ≡ []) → IsFinished r before after mark old
 last_none before after mark (Ok done) old left e h none =
-    let answered = subst (λ l. AnswersInTurn old.content (with_last [] l) [] old.content) (sym e) (refl, refl) in
-    (record { out = []; content = old.content; answered = answered; sent = rw append-nil (sent_all left none h.0) }, h.1)
+    let replied = subst (λ l. RepliesInTurn old.content (with_last [] l) [] old.content) (sym e) (refl, refl) in
+    (record { out = []; content = old.content; replied = replied; sent = rw append-nil (sent_all left none h.0) }, h.1)
 last_none before after mark (Err error) old left e h none =
     let ((rest, sent), marked, is) = h in
-    let answered = subst (λ l. AnswersInTurn old.content (with_last [] l) [] old.content) (sym e) (refl, refl) in
-    let last : IsLastAnswered before after old rest = record { out = []; content = old.content; answered = answered; sent = rw append-nil sent } in
+    let replied = subst (λ l. RepliesInTurn old.content (with_last [] l) [] old.content) (sym e) (refl, refl) in
+    let last : IsLastReplied before after old rest = record { out = []; content = old.content; replied = replied; sent = rw append-nil sent } in
     subst (λ x. IsFinished (Err x) before after mark old) (sym is) ((rest, last), marked)
 
-last_answered : {before after : Option (List ℕ)} {rest : List ℕ} {content : Pairs} (old : State) → (old.line ≢ []) → IsAnswering before after old content rest → IsLastAnswered before after old rest
-last_answered {before} {after} {rest} {content} old some h = record {
+last_replied : {before after : Option (List ℕ)} {rest : List ℕ} {content : Pairs} (old : State) → (old.line ≢ []) → IsReplying before after old content rest → IsLastReplied before after old rest
+last_replied {before} {after} {rest} {content} old some h = record {
   out = h.out;
   content = content;
-  answered = rw (with_last_some [] old.line some) (Answers-one old.content content old.line h.out h.reply);
+  replied = rw (with_last_some [] old.line some) (RepliesInTurn-one old.content content old.line h.out h.reply);
   sent = h.sent;
 }
 
--- the last line was not answered in full
+-- the reply to the last line was not sent in full
 pub last_stops : (before after : Option (List ℕ)) (mark : Bool) (error : RunError) (old new : State) → (old.line ≢ [])
-    → IsAnswered (Err error) before after mark old new → IsFinished (Err error) before after mark old
+    → IsLineReplied (Err error) before after mark old new → IsFinished (Err error) before after mark old
 last_stops before after mark Read old new some h = absurd h
 last_stops before after mark Memory old new some h = absurd h
 last_stops before after mark Write old new some h =
-    let ((content, left, answering), marked) = h in
-    ((left, last_answered old some answering), marked)
+    let ((content, left, replying), marked) = h in
+    ((left, last_replied old some replying), marked)
 
-goes_out : {a b c : Option (List ℕ)} {old : State} {content : Pairs} {waiting rest : List ℕ} → IsAnswering a b old content waiting → Sends b c waiting rest → IsAnswering a c old content rest
+goes_out : {a b c : Option (List ℕ)} {old : State} {content : Pairs} {waiting rest : List ℕ} → IsReplying a b old content waiting → Sends b c waiting rest → IsReplying a c old content rest
 goes_out {a} {b} {c} {old} {content} {waiting} {rest} h s =
     let more : Sends b c (waiting ++ []) rest = rw append-nil s in
     let sent = Sends-trans [] h.sent more in
     record { out = h.out; reply = h.reply; sent = rw append-nil at sent }
 
--- the last line was answered, and what waits is sent
+-- the last line has a reply, and what waits is sent
 pub last_sent : (before mid after : Option (List ℕ)) (mark : Bool) (r : Result (Unit {0}) RunError) (old : State) (content : Pairs) (waiting left : List ℕ) → (old.line ≢ [])
-    → IsAnswering before mid old content waiting → IsSent r mid after mark waiting left → OnOk r (left ≡ []) → IsFinished r before after mark old
+    → IsReplying before mid old content waiting → IsSent r mid after mark waiting left → OnOk r (left ≡ []) → IsFinished r before after mark old
 last_sent before mid after mark (Ok done) old content waiting left some h s none =
-    (last_answered old some (goes_out h (sent_all left none s.0)), s.1)
+    (last_replied old some (goes_out h (sent_all left none s.0)), s.1)
 last_sent before mid after mark (Err error) old content waiting left some h s none =
     let ((rest, sent), marked, is) = s in
-    subst (λ x. IsFinished (Err x) before after mark old) (sym is) ((rest, last_answered old some (goes_out h sent)), marked)
+    subst (λ x. IsFinished (Err x) before after mark old) (sym is) ((rest, last_replied old some (goes_out h sent)), marked)
 
 -- ---- known bytes
 
@@ -91,15 +91,15 @@ at_end (Some x) read rest input e known short (inl h) = let same : x ≡ rest = 
 at_end is read rest input e known short (inr h) =
     let whole : length input ≡ length read + length rest = ap length e ∙ length-append read rest in absurd (omega arith)
 
--- ---- what was answered
+-- ---- which lines have replies
 
 begins_last : (lines : List (List ℕ)) (open_bytes written : List ℕ) → BeginsReplies lines written → BeginsReplies (with_last lines open_bytes) written
 begins_last lines [] written h = h
 begins_last lines (b ∷ bs) written h =
-    let (more, (new, answered)) = h in
+    let (more, (new, replied)) = h in
     let (text, last, reply) = Reply-exists new (b ∷ bs) in
-    let all = Answers-append [] new last lines ((b ∷ bs) ∷ []) (written ++ more) text answered (Answers-one new last (b ∷ bs) text reply) in
-    (more ++ text, (last, subst (λ o. AnswersInTurn [] (lines ++ (b ∷ bs) ∷ []) o last) (append_assoc written more text) all))
+    let all = RepliesInTurn-append [] new last lines ((b ∷ bs) ∷ []) (written ++ more) text replied (RepliesInTurn-one new last (b ∷ bs) text reply) in
+    (more ++ text, (last, subst (λ o. RepliesInTurn [] (lines ++ (b ∷ bs) ∷ []) o last) (append_assoc written more text) all))
 
 with_last-append : (ls ms : List (List ℕ)) (bytes : List ℕ) → with_last (ls ++ ms) bytes ≡ ls ++ with_last ms bytes
 with_last-append ls ms [] = refl
@@ -125,10 +125,10 @@ split_of {a} {b} {read} {new} s = record { whole = s.whole; each = s.each; last 
 
 replies_of : {a b : Option (List ℕ)} {read : List ℕ} {new : State} → (s : Serves a b read begun new) → new.waiting ≡ [] → Replies s.lines s.sent.front
 replies_of {a} {b} {read} {new} s none =
-    (new.content, subst (λ o. AnswersInTurn [] s.lines o new.content) (s.sent.whole ∙ ap (λ w. s.sent.front ++ w) none ∙ append-nil s.sent.front) s.answered)
+    (new.content, subst (λ o. RepliesInTurn [] s.lines o new.content) (s.sent.whole ∙ ap (λ w. s.sent.front ++ w) none ∙ append-nil s.sent.front) s.replied)
 
 begins_of : {a b : Option (List ℕ)} {read : List ℕ} {new : State} → (s : Serves a b read begun new) → BeginsReplies s.lines s.sent.front
-begins_of {a} {b} {read} {new} s = (new.waiting, (new.content, subst (λ o. AnswersInTurn [] s.lines o new.content) s.sent.whole s.answered))
+begins_of {a} {b} {read} {new} s = (new.waiting, (new.content, subst (λ o. RepliesInTurn [] s.lines o new.content) s.sent.whole s.replied))
 
 -- what a run over known bytes ensures
 abbrev pub Told : Result (Unit {0}) RunError → Option (List ℕ) → Option (List ℕ) → Bool → Option (List ℕ) → Option (List ℕ) → Bool → Type 0
@@ -205,12 +205,12 @@ run_stops was is rm before after wm Write new h = let (read, came, stops, unmark
 run_stops was is rm before after wm Memory new h = let (read, came, stops, unmarked) = h in starved was is rm before after wm read came unmarked stops
 
 -- the lines before, and the last one
-last_joined : {a b c : Option (List ℕ)} {read left : List ℕ} {mid : State} (s : Serves a b read begun mid) (l : IsLastAnswered b c mid left)
-    → AnswersInTurn [] (with_last s.lines mid.line) (s.out ++ l.out) l.content × Sends a c (s.out ++ l.out) left
+last_joined : {a b c : Option (List ℕ)} {read left : List ℕ} {mid : State} (s : Serves a b read begun mid) (l : IsLastReplied b c mid left)
+    → RepliesInTurn [] (with_last s.lines mid.line) (s.out ++ l.out) l.content × Sends a c (s.out ++ l.out) left
 last_joined {a} {b} {c} {read} {left} {mid} s l =
-    let all = Answers-append [] mid.content l.content s.lines (with_last [] mid.line) s.out l.out s.answered l.answered in
+    let all = RepliesInTurn-append [] mid.content l.content s.lines (with_last [] mid.line) s.out l.out s.replied l.replied in
     let same = sym (with_last-append s.lines [] mid.line) ∙ ap (λ ls. with_last ls mid.line) (append-nil s.lines) in
-    (subst (λ ls. AnswersInTurn [] ls (s.out ++ l.out) l.content) same all, Sends-trans l.out s.sent l.sent)
+    (subst (λ ls. RepliesInTurn [] ls (s.out ++ l.out) l.content) same all, Sends-trans l.out s.sent l.sent)
 
 -- all was read
 pub run_ends : (was is : Option (List ℕ)) (rm : Bool) (before mid after : Option (List ℕ)) (was_wm wm : Bool) (r : Result (Unit {0}) RunError) (new : State) (u : Unit {0})
@@ -218,7 +218,7 @@ pub run_ends : (was is : Option (List ℕ)) (rm : Bool) (before mid after : Opti
 run_ends was is rm before mid after was_wm wm (Ok done) new u h k = λ input held e short f.
     let (read, (came, full), s, none, unmarked, wm_before) = h in
     let (rest, split, left) = known_read was is read input came e in
-    let (answered, sent) = last_joined s k.0 in (
+    let (replied, sent) = last_joined s k.0 in (
       read,
       rest,
       sent.front,
@@ -232,7 +232,7 @@ run_ends was is rm before mid after was_wm wm (Ok done) new u h k = λ input hel
         s.lines,
         new.line,
         split_of s,
-        (k.0.content, subst (λ o. AnswersInTurn [] (with_last s.lines new.line) o k.0.content) (sent.whole ∙ append-nil sent.front) answered),
+        (k.0.content, subst (λ o. RepliesInTurn [] (with_last s.lines new.line) o k.0.content) (sent.whole ∙ append-nil sent.front) replied),
       ),
     )
 run_ends was is rm before mid after was_wm wm (Err Read) new u h k = absurd k
@@ -241,7 +241,7 @@ run_ends was is rm before mid after was_wm wm (Err Write) new u h k = λ input h
     let (read, (came, full), s, none, unmarked, wm_before) = h in
     let (rest, split, left) = known_read was is read input came e in
     let ((waiting, l), marked) = k in
-    let (answered, sent) = last_joined s l in (
+    let (replied, sent) = last_joined s l in (
       read,
       rest,
       sent.front,
@@ -253,7 +253,7 @@ run_ends was is rm before mid after was_wm wm (Err Write) new u h k = λ input h
         s.lines,
         new.line,
         split_of s,
-        (waiting, (l.content, subst (λ o. AnswersInTurn [] (with_last s.lines new.line) o l.content) sent.whole answered)),
+        (waiting, (l.content, subst (λ o. RepliesInTurn [] (with_last s.lines new.line) o l.content) sent.whole replied)),
         λ some. absurd (some (at_end is read rest input split left short full)),
       ),
     )

@@ -1,8 +1,7 @@
 pub mod Sending
 pub mod Parsing
-pub mod Numbers
 pub mod Views
-pub mod Answering
+pub mod Replying
 pub mod Digits
 pub mod Listing
 pub mod Serving

@@ -1,4 +1,4 @@
--- The lines of a list of pairs, and of an answer.
+-- The lines of a list of pairs, and of a reply.
 use Rattle.std.proofs.Common.{◌≡◌, ℕ, List, [], ◌∷◌, ◌++◌, length, map, drop, take-append-drop, append_assoc, refl, sym, ap, subst, ◌∙◌, append-nil, Bool, Vec, Global}
 use Rattle.std.specs.Prelude.{Option, None, Result, codes, decimal}
 use Rattle.std.specs.List.{flat_map}
@@ -11,7 +11,7 @@ use Rattle.std.proofs.lemmas.Iterator.Consumers.{YieldsList-from_first, YieldsLi
 use Rattle.line_program.specs.declared.error.RunError.{RunError}
 use Rattle.line_program.specs.Lines.{ended}
 use Rattle.line_program.specs.Command.{Command, command_of, words_of}
-use Rattle.line_program.specs.Answers.{Pairs, pair_text, listing, Meets}
+use Rattle.line_program.specs.Results.{Pairs, pair_text, listing, Meets}
 use Rattle.line_program.specs.Content.{Stored, pair_of, by_bytes}
 use Rattle.line_program.specs.Replied.{IsReplied}
 use Rattle.line_program.specs.Sent.{IsSent}
@@ -77,7 +77,7 @@ listing_front pairs front rest is =
     listing_text (by_bytes pairs) ∙ ap (λ l. lines_text (by_bytes l) ++ last) is ∙ ap (λ l. l ++ last) (lines_text-append front rest)
     ∙ append_assoc (lines_text (by_bytes front)) (lines_text (by_bytes rest)) last
 
--- a line was answered by these lines
+-- these lines are a reply to a line
 pub replied : (result : Result (Unit {0}) RunError) (before after : Option (List ℕ)) (mark : Bool) (old : Pairs) (line waited waiting : List ℕ) (new : Pairs)
     (command : Option Command) (lines : List (List ℕ)) → command_of (words_of line) ≡ command → Meets old command lines new
     → IsSent result before after mark (waited ++ flat_map ended lines) waiting → IsReplied result before after mark old line waited waiting new
@@ -87,7 +87,7 @@ replied result before after mark old line waited waiting new command lines is me
   sent = sent;
 }
 
--- a line was answered by one line
+-- one line is a reply to a line
 pub replied_one : (result : Result (Unit {0}) RunError) (before after : Option (List ℕ)) (mark : Bool) (old : Pairs) (line waited waiting : List ℕ) (new : Pairs)
     (command : Option Command) (text : List ℕ) → command_of (words_of line) ≡ command → Meets old command (text ∷ []) new
     → IsSent result before after mark (waited ++ ended text) waiting → IsReplied result before after mark old line waited waiting new

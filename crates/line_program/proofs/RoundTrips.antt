@@ -10,9 +10,9 @@ use Rattle.std.proofs.lemmas.Slice.Eq.{bytes_eq-Decides}
 use Rattle.std.proofs.lemmas.Fmt.{decimal_is_IsNumeral, length-decimal-le}
 use Rattle.hex.specs.Hex.{IsBytes, encode_lower, lower_digits}
 use Rattle.hex.proofs.HexLemmas.{length-encode_with, decode_of-encode_lower}
-use Rattle.line_program.specs.Command.{key_of, is_numeral, number_of}
-use Rattle.line_program.specs.Answers.{key_text}
-use Rattle.line_program.proofs.Numbers.{below_limit_small}
+use Rattle.line_program.specs.Command.{key_of, number_of}
+use Rattle.line_program.specs.Results.{key_text}
+use Rattle.decimals.proofs.Numbers.{read_number-decimal}
 
 by_length : (a b : List ℕ) (t : Bool) → length a ≢ length b → bytes_eq a b ≡ t → bytes_eq a b ≡ false
 by_length a b true apart is = absurd (apart (ap length ((bytes_eq-Decides a b).0 is)))
@@ -28,19 +28,9 @@ key_of-key_text (b ∷ key) small =
     let some : (length text == 0) ≡ false = ne_eqb (length text) 0 (λ e. omega arith) in
     rw (other, some, decode_of-encode_lower (b ∷ key) small) refl
 
-decimal_digit : (c : ℕ) → digit_value c < 10 → is_ascii_digit c ≡ true
-decimal_digit c h = grind (arith, nat_tests)
-
-all_decimal : (text : List ℕ) → AllDigits 10 text → list_all is_ascii_digit text ≡ true
-all_decimal [] h = refl
-all_decimal (c ∷ text) h = rw (decimal_digit c h.0) (all_decimal text h.1)
-
 -- so is a number
 pub number_of-decimal : (n : ℕ) → n ≤ 18446744073709551615 → number_of (decimal n) ≡ Some n
 number_of-decimal n fits =
-    let ((some, digits), value) = decimal_is_IsNumeral n (omega arith) in
     let short = length-decimal-le 20 n (omega arith) (omega arith) (omega arith) in
-    let least : nat_le 1 (length (decimal n)) ≡ true = grind (arith, nat_tests) in
     let most : nat_le (length (decimal n)) 20 ≡ true = grind (arith, nat_tests) in
-    let numeral : is_numeral (decimal n) ≡ true = rw (least, most, all_decimal (decimal n) digits) refl in
-    rw (numeral, value) (sym (below_limit_small n fits))
+    rw most (read_number-decimal n fits)

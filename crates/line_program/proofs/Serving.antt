@@ -15,13 +15,13 @@ use Rattle.line_program.proofs.Sending.{Sends-none, Sends-trans}
 use Rattle.line_program.specs.Lines.{IsLine, ended, Splits}
 use Rattle.blart_keys.specs.Outside.{outside}
 use Rattle.line_program.specs.Command.{Command, Insert, Get, Remove, RemovePrefix, PrefixGet, Overwrite, ListAll, ListPrefix, ListRange, command_of, words_of}
-use Rattle.line_program.specs.Answers.{Pairs, Reply, Meets, AnswersOrRefuses, listing, range_lines, pair_bytes, value_text, value_at, found_text, inserted_text}
-use Rattle.line_program.specs.Replies.{AnswersInTurn}
+use Rattle.line_program.specs.Results.{Pairs, Reply, Meets, HasResultOrFails, listing, range_lines, pair_bytes, value_text, value_at, found_text, inserted_text}
+use Rattle.line_program.specs.Replies.{RepliesInTurn}
 use Rattle.line_program.specs.Serves.{State, Serves}
 
--- the command has an answer
-abbrev HasAnswer : Pairs → Command → Type 0
-HasAnswer S command = (lines : List (List ℕ)) × (T : Pairs) × AnswersOrRefuses S command lines T
+-- the command has a reply
+abbrev HasReply : Pairs → Command → Type 0
+HasReply S command = (lines : List (List ℕ)) × (T : Pairs) × HasResultOrFails S command lines T
 
 related_empty : (a : List ℕ) → related a [] ≡ true
 related_empty [] = refl
@@ -42,7 +42,7 @@ stored_empty S n free = record {
   );
 }
 
-insert_empty : (S : Pairs) (n : ℕ) (t u : Bool) → conflict pair_bytes S [] ≡ t → stores pair_bytes S [] ≡ u → HasAnswer S (Insert [] n)
+insert_empty : (S : Pairs) (n : ℕ) (t u : Bool) → conflict pair_bytes S [] ≡ t → stores pair_bytes S [] ≡ u → HasReply S (Insert [] n)
 insert_empty S n true u conflicts is = (codes "refused prefix" ∷ [], S, inl (Err (Prefix (record {})), (conflicts, refl), refl))
 insert_empty S n false false free new = (codes "refused memory" ∷ [], S, inl (Err (Memory (record {})), (free, new, refl), refl))
 insert_empty S n false true free is = (inserted_text (Ok (value_at S [])) ∷ [], ([], n) ∷ [], inl (Ok (value_at S []), (free, stored_empty S n free, refl), refl))
@@ -55,55 +55,55 @@ over_empty S n = record {
   others = λ y off. absurd (false≢true (sym off ∙ related_empty y.0));
 }
 
--- each command has an answer
-command_answer : (S : Pairs) (command : Command) → HasAnswer S command
-command_answer S (Insert [] n) = insert_empty S n (conflict pair_bytes S []) (stores pair_bytes S []) refl refl
-command_answer S (Insert (b ∷ key) n) = (codes "refused memory" ∷ [], S, inr (λ e. cc, refl, refl))
-command_answer S (Get key) = (value_text (value_at S key) ∷ [], S, inl (refl, refl))
-command_answer S (Remove key) = (value_text (value_at S key) ∷ [], without pair_bytes S key, inl (refl, refl))
-command_answer S (RemovePrefix key) = ((codes "removed " ++ decimal (length (under pair_bytes S key))) ∷ [], outside pair_bytes S key, inl (refl, refl))
-command_answer S (PrefixGet key) = (found_text (front_of pair_bytes S key) ∷ [], S, inl (refl, refl))
-command_answer S (Overwrite [] n) = let T : Pairs = ([], n) ∷ [] in ((codes "len " ++ decimal (length T)) ∷ [], T, inl (inl (over_empty S n, refl)))
-command_answer S (Overwrite (b ∷ key) n) = (codes "refused memory" ∷ [], S, inr (λ e. cc, refl, refl))
-command_answer S ListAll = (listing S, S, inl (refl, refl))
-command_answer S (ListPrefix key) = (listing (under pair_bytes S key), S, inl (refl, refl))
-command_answer S (ListRange low high) = (range_lines S low high, S, inl (refl, refl))
+-- each command has a reply
+command_reply : (S : Pairs) (command : Command) → HasReply S command
+command_reply S (Insert [] n) = insert_empty S n (conflict pair_bytes S []) (stores pair_bytes S []) refl refl
+command_reply S (Insert (b ∷ key) n) = (codes "refused memory" ∷ [], S, inr (λ e. cc, refl, refl))
+command_reply S (Get key) = (value_text (value_at S key) ∷ [], S, inl (refl, refl))
+command_reply S (Remove key) = (value_text (value_at S key) ∷ [], without pair_bytes S key, inl (refl, refl))
+command_reply S (RemovePrefix key) = ((codes "removed " ++ decimal (length (under pair_bytes S key))) ∷ [], outside pair_bytes S key, inl (refl, refl))
+command_reply S (PrefixGet key) = (found_text (front_of pair_bytes S key) ∷ [], S, inl (refl, refl))
+command_reply S (Overwrite [] n) = let T : Pairs = ([], n) ∷ [] in ((codes "len " ++ decimal (length T)) ∷ [], T, inl (inl (over_empty S n, refl)))
+command_reply S (Overwrite (b ∷ key) n) = (codes "refused memory" ∷ [], S, inr (λ e. cc, refl, refl))
+command_reply S ListAll = (listing S, S, inl (refl, refl))
+command_reply S (ListPrefix key) = (listing (under pair_bytes S key), S, inl (refl, refl))
+command_reply S (ListRange low high) = (range_lines S low high, S, inl (refl, refl))
 
-line_answer : (S : Pairs) (command : Option Command) → (lines : List (List ℕ)) × (T : Pairs) × Meets S command lines T
-line_answer S None = (codes "refused line" ∷ [], S, (refl, refl))
-line_answer S (Some command) = command_answer S command
+line_reply : (S : Pairs) (command : Option Command) → (lines : List (List ℕ)) × (T : Pairs) × Meets S command lines T
+line_reply S None = (codes "refused line" ∷ [], S, (refl, refl))
+line_reply S (Some command) = command_reply S command
 
--- each line has an answer
+-- each line has a reply
 pub Reply-exists : (S : Pairs) (line : List ℕ) → (out : List ℕ) × (T : Pairs) × Reply S line out T
 Reply-exists S line =
-    let (lines, T, meets) = line_answer S (command_of (words_of line)) in
+    let (lines, T, meets) = line_reply S (command_of (words_of line)) in
     (flat_map ended lines, T, record { lines = lines; meets = meets; whole = refl })
 
--- answers to lines one after the other
-pub Answers-append : (a b c : Pairs) (ls ms : List (List ℕ)) (o p : List ℕ) → AnswersInTurn a ls o b → AnswersInTurn b ms p c → AnswersInTurn a (ls ++ ms) (o ++ p) c
-Answers-append a b c [] ms o p h k = let P : List ℕ → Pairs → Type 0 = λ q d. AnswersInTurn d ms q c in
-    rw (h.0) (subst (λ d. AnswersInTurn d ms p c) h.1 k)
-Answers-append a b c (l ∷ ls) ms o p h k =
+-- replies to lines one after the other
+pub RepliesInTurn-append : (a b c : Pairs) (ls ms : List (List ℕ)) (o p : List ℕ) → RepliesInTurn a ls o b → RepliesInTurn b ms p c → RepliesInTurn a (ls ++ ms) (o ++ p) c
+RepliesInTurn-append a b c [] ms o p h k = let P : List ℕ → Pairs → Type 0 = λ q d. RepliesInTurn d ms q c in
+    rw (h.0) (subst (λ d. RepliesInTurn d ms p c) h.1 k)
+RepliesInTurn-append a b c (l ∷ ls) ms o p h k =
     let (text, mid, more, reply, rest, whole) = h in (
       text,
       mid,
       more ++ p,
       reply,
-      Answers-append mid b c ls ms more p rest k,
+      RepliesInTurn-append mid b c ls ms more p rest k,
       ap (λ q. q ++ p) whole ∙ append_assoc text more p,
     )
 
--- many lines have an answer
-pub Answers-exist : (a : Pairs) (ls : List (List ℕ)) → (o : List ℕ) × (b : Pairs) × AnswersInTurn a ls o b
-Answers-exist a [] = ([], a, (refl, refl))
-Answers-exist a (l ∷ ls) =
+-- many lines have a reply
+pub RepliesInTurn-exist : (a : Pairs) (ls : List (List ℕ)) → (o : List ℕ) × (b : Pairs) × RepliesInTurn a ls o b
+RepliesInTurn-exist a [] = ([], a, (refl, refl))
+RepliesInTurn-exist a (l ∷ ls) =
     let (text, mid, reply) = Reply-exists a l in
-    let (more, b, rest) = Answers-exist mid ls in
+    let (more, b, rest) = RepliesInTurn-exist mid ls in
     (text ++ more, b, (text, mid, more, reply, rest, refl))
 
 -- one line
-pub Answers-one : (a b : Pairs) (l text : List ℕ) → Reply a l text b → AnswersInTurn a (l ∷ []) text b
-Answers-one a b l text h = (text, b, [], h, (refl, refl), sym (append-nil text))
+pub RepliesInTurn-one : (a b : Pairs) (l text : List ℕ) → Reply a l text b → RepliesInTurn a (l ∷ []) text b
+RepliesInTurn-one a b l text h = (text, b, [], h, (refl, refl), sym (append-nil text))
 
 -- one more line feed in front
 split_feed : (bytes : List ℕ) (lines : List (List ℕ)) (open_bytes : List ℕ) → Splits bytes lines open_bytes → Splits (10 ∷ bytes) ([] ∷ lines) open_bytes
@@ -156,7 +156,7 @@ Serves-none a s h = record {
   whole = append-nil s.line;
   each = All-nil IsLine;
   last = h;
-  answered = (refl, refl);
+  replied = (refl, refl);
   sent = rw append-nil (Sends-none a s.waiting);
 }
 
@@ -170,15 +170,15 @@ Serves-trans {a} {b} {c} {x} {y} {s} {t} {u} h k = record {
       ∙ ap (λ l. l ++ u.line) (sym (flat_map-append ended h.lines k.lines));
   each = All-append IsLine h.lines k.lines h.each k.each;
   last = k.last;
-  answered = Answers-append s.content t.content u.content h.lines k.lines h.out k.out h.answered k.answered;
+  replied = RepliesInTurn-append s.content t.content u.content h.lines k.lines h.out k.out h.replied k.replied;
   sent = rw (← append_assoc) (Sends-trans k.out h.sent k.sent);
 }
 
--- more bytes come, and the lines that they end have an answer, which waits
+-- more bytes come, and the lines that they end have a reply, which waits
 pub Serves-goes_on : {a b : Option (List ℕ)} {x : List ℕ} {s t : State} (y : List ℕ) → Serves a b x s t → (u : State) × Serves a b (x ++ y) s u
 Serves-goes_on {a} {b} {x} {s} {t} y h =
     let (lines, rest, split) = Splits-exist (t.line ++ y) in
-    let (out, content, answered) = Answers-exist t.content lines in
+    let (out, content, replied) = RepliesInTurn-exist t.content lines in
     let u : State = record { line = rest; content = content; waiting = t.waiting ++ out } in (
       u,
       Serves-trans h (record {
@@ -187,7 +187,7 @@ Serves-goes_on {a} {b} {x} {s} {t} y h =
         whole = split.whole;
         each = split.each;
         last = split.last;
-        answered = answered;
+        replied = replied;
         sent = Sends-none b (t.waiting ++ out);
       }),
     )

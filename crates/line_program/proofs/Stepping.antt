@@ -6,27 +6,27 @@ use Rattle.std.proofs.lemmas.List.{take_more, take_all}
 use Rattle.std.proofs.Math.Seq.{take-length, take-add}
 use Rattle.std.proofs.lemmas.List.Elements.{All-append, All-nil, All-cons}
 use Rattle.line_program.proofs.Sending.{Sends-none}
-use Rattle.line_program.proofs.Serving.{Answers-one, Serves-trans, Serves-goes_on}
+use Rattle.line_program.proofs.Serving.{RepliesInTurn-one, Serves-trans, Serves-goes_on}
 use Rattle.line_program.specs.declared.error.RunError.{RunError}
 use Rattle.line_program.specs.declared.error.RunError.TheVariants.{Read, Write, Memory}
 use Rattle.line_program.specs.Lines.{IsLine, ended}
-use Rattle.line_program.specs.Answers.{Pairs, Reply}
+use Rattle.line_program.specs.Results.{Pairs, Reply}
 use Rattle.line_program.specs.Replied.{IsReplied}
 use Rattle.line_program.specs.Sent.{Sends, IsSent}
-use Rattle.line_program.specs.Serves.{State, Serves, Stops, IsServed, IsGrown, IsAnswering, IsAnswered}
+use Rattle.line_program.specs.Serves.{State, Serves, Stops, IsServed, IsGrown, IsReplying, IsLineReplied}
 
--- the answer to the line was not sent
-pub answer_stops : (before after : Option (List ℕ)) (mark : Bool) (error : RunError) (line waiting : List ℕ) (content : Pairs) (old new : State) → line ≡ old.line
-    → IsReplied (Err error) before after mark old.content line old.waiting waiting content → IsAnswered (Err error) before after mark old new
-answer_stops before after mark error line waiting content old new same h =
+-- the reply to the line was not sent
+pub reply_stops : (before after : Option (List ℕ)) (mark : Bool) (error : RunError) (line waiting : List ℕ) (content : Pairs) (old new : State) → line ≡ old.line
+    → IsReplied (Err error) before after mark old.content line old.waiting waiting content → IsLineReplied (Err error) before after mark old new
+reply_stops before after mark error line waiting content old new same h =
     let ((left, sent), marked, is) = h.sent in
-    let answering : IsAnswering before after old content left = record { out = h.out; reply = subst (λ l. Reply old.content l h.out content) same h.reply; sent = sent } in
-    subst (λ e. IsAnswered (Err e) before after mark old new) (sym is) ((content, left, answering), marked)
+    let replying : IsReplying before after old content left = record { out = h.out; reply = subst (λ l. Reply old.content l h.out content) same h.reply; sent = sent } in
+    subst (λ e. IsLineReplied (Err e) before after mark old new) (sym is) ((content, left, replying), marked)
 
--- the answer to the line goes after what waits
-pub answer_goes : (before after : Option (List ℕ)) (mark : Bool) (done : Unit {0}) (line waiting : List ℕ) (content : Pairs) (old : State) → line ≡ old.line
-    → IsReplied (Ok done) before after mark old.content line old.waiting waiting content → IsAnswering before after old content waiting × (mark ≡ false)
-answer_goes before after mark done line waiting content old same h =
+-- the reply to the line goes after what waits
+pub reply_goes : (before after : Option (List ℕ)) (mark : Bool) (done : Unit {0}) (line waiting : List ℕ) (content : Pairs) (old : State) → line ≡ old.line
+    → IsReplied (Ok done) before after mark old.content line old.waiting waiting content → IsReplying before after old content waiting × (mark ≡ false)
+reply_goes before after mark done line waiting content old same h =
     (record { out = h.out; reply = subst (λ l. Reply old.content l h.out content) same h.reply; sent = h.sent.0 }, h.sent.1)
 
 -- nothing came, and something was sent
@@ -38,7 +38,7 @@ Serves-sent {a} {b} {left} s h sent = record {
   whole = append-nil s.line;
   each = All-nil IsLine;
   last = h;
-  answered = (refl, refl);
+  replied = (refl, refl);
   sent = rw append-nil sent;
 }
 
@@ -51,22 +51,22 @@ Serves-grown a bytes s h k = record {
   whole = refl;
   each = All-nil IsLine;
   last = All-append (λ b. b ≢ 10) s.line bytes h k;
-  answered = (refl, refl);
+  replied = (refl, refl);
   sent = rw append-nil (Sends-none a s.waiting);
 }
 
 -- the rest of a line came, and its line feed
 pub Serves-line : {a b : Option (List ℕ)} {content : Pairs} {rest : List ℕ} (bytes : List ℕ) (s : State) → IsLine s.line → IsLine bytes
-    → IsAnswering a b (record { line = s.line ++ bytes; content = s.content; waiting = s.waiting }) content rest
+    → IsReplying a b (record { line = s.line ++ bytes; content = s.content; waiting = s.waiting }) content rest
     → Serves a b (ended bytes) s (record { line = []; content = content; waiting = rest })
-Serves-line {a} {b} {content} {rest} bytes s h k answering = record {
+Serves-line {a} {b} {content} {rest} bytes s h k replying = record {
   lines = (s.line ++ bytes) ∷ [];
-  out = answering.out;
+  out = replying.out;
   whole = sym (append_assoc s.line bytes (10 ∷ [])) ∙ sym (append-nil (ended (s.line ++ bytes))) ∙ sym (append-nil (flat_map ended ((s.line ++ bytes) ∷ [])));
   each = All-cons IsLine (s.line ++ bytes) [] (All-append (λ b. b ≢ 10) s.line bytes h k) (All-nil IsLine);
   last = All-nil (λ b. b ≢ 10);
-  answered = Answers-one s.content content (s.line ++ bytes) answering.out answering.reply;
-  sent = answering.sent;
+  replied = RepliesInTurn-one s.content content (s.line ++ bytes) replying.out replying.reply;
+  sent = replying.sent;
 }
 
 -- the line did not grow by the first of these bytes
@@ -81,16 +81,16 @@ grow_stops before after mark Memory piece bytes old mid line some h =
     let s : State = record { line = old.line; content = old.content; waiting = [] } in
     (h.1, [], bytes, refl, some, s, Serves-sent old line h.0, refl)
 
--- the answer to the line was not sent
+-- the reply to the line was not sent
 pub step_stops : (before after : Option (List ℕ)) (mark : Bool) (error : RunError) (piece rest bytes : List ℕ) (old new : State) → IsLine old.line → IsLine piece
     → bytes ≡ ended piece ++ rest
-    → IsAnswered (Err error) before after mark (record { line = old.line ++ piece; content = old.content; waiting = old.waiting }) new
+    → IsLineReplied (Err error) before after mark (record { line = old.line ++ piece; content = old.content; waiting = old.waiting }) new
     → Stops error before after mark bytes old
 step_stops before after mark Read piece rest bytes old new line part whole h = absurd h
 step_stops before after mark Memory piece rest bytes old new line part whole h = absurd h
 step_stops before after mark Write piece rest bytes old new line part whole h =
-    let ((content, left, answering), marked) = h in
-    let (u, served) = Serves-goes_on rest (Serves-line piece old line part answering) in
+    let ((content, left, replying), marked) = h in
+    let (u, served) = Serves-goes_on rest (Serves-line piece old line part replying) in
     (marked, u, subst (λ x. Serves before after x old u) (sym whole) served)
 
 -- a stop after a part of the bytes
@@ -126,25 +126,25 @@ some_bytes bytes h e = let none : length bytes ≡ 0 = ap length e in absurd (om
 feed_at : (at : ℕ) (piece bytes : List ℕ) → piece ≡ take at bytes → at < length bytes → get_or bytes at 0 ≡ 10 → take (at + 1) bytes ≡ ended piece
 feed_at at piece bytes is lt feed = take_more bytes at 0 lt ∙ ap (λ b. take at bytes ++ b ∷ []) feed ∙ ap ended (sym is)
 
--- the line grew and its answer was not sent
+-- the line grew and its reply was not sent
 pub feed_stops : (before mid after : Option (List ℕ)) (mark : Bool) (error : RunError) (at : ℕ) (piece bytes : List ℕ) (old grown new : State)
     → piece ≡ take at bytes → (grown ≡ record { line = old.line ++ piece; content = old.content; waiting = old.waiting }) → mid ≡ before
     → at < length bytes → get_or bytes at 0 ≡ 10 → IsLine (take at bytes) → IsLine old.line
-    → IsAnswered (Err error) mid after mark grown new → Stops error before after mark bytes old
+    → IsLineReplied (Err error) mid after mark grown new → Stops error before after mark bytes old
 feed_stops before mid after mark error at piece bytes old grown new is grew same lt feed part line h =
-    let h1 = subst (λ m. IsAnswered (Err error) m after mark grown new) same h in
-    let h2 = subst (λ s. IsAnswered (Err error) before after mark s new) grew h1 in
+    let h1 = subst (λ m. IsLineReplied (Err error) m after mark grown new) same h in
+    let h2 = subst (λ s. IsLineReplied (Err error) before after mark s new) grew h1 in
     let whole = sym (take-append-drop (at + 1) bytes) ∙ ap (λ l. l ++ drop (at + 1) bytes) (feed_at at piece bytes is lt feed) in
     step_stops before after mark error piece (drop (at + 1) bytes) bytes old new line (subst IsLine (sym is) part) whole h2
 
--- the line grew and was answered
+-- the line grew, and the reply was sent
 pub feed_serves : (before mid after : Option (List ℕ)) (at : ℕ) (piece bytes : List ℕ) (old grown new : State)
     → piece ≡ take at bytes → (grown ≡ record { line = old.line ++ piece; content = old.content; waiting = old.waiting }) → mid ≡ before
     → at < length bytes → get_or bytes at 0 ≡ 10 → IsLine (take at bytes) → IsLine old.line
-    → IsAnswering mid after grown new.content new.waiting → new.line ≡ [] → Serves before after (take (at + 1) bytes) old new
+    → IsReplying mid after grown new.content new.waiting → new.line ≡ [] → Serves before after (take (at + 1) bytes) old new
 feed_serves before mid after at piece bytes old grown new is grew same lt feed part line h none =
-    let h1 = subst (λ m. IsAnswering m after grown new.content new.waiting) same h in
-    let h2 = subst (λ s. IsAnswering before after s new.content new.waiting) grew h1 in
+    let h1 = subst (λ m. IsReplying m after grown new.content new.waiting) same h in
+    let h2 = subst (λ s. IsReplying before after s new.content new.waiting) grew h1 in
     let served = Serves-line piece old line (subst IsLine (sym is) part) h2 in
     let s1 = subst (λ x. Serves before after x old (record { line = []; content = new.content; waiting = new.waiting })) (sym (feed_at at piece bytes is lt feed)) served in
     subst (λ l. Serves before after (take (at + 1) bytes) old (record { line = l; content = new.content; waiting = new.waiting })) (sym none) s1

@@ -58,7 +58,7 @@ module _ {K V : Type 0} (key_bytes : K → List ℕ) where
   pub Puts-view : (S : List (K × V)) (key : K) (value : V) (r : Result (Option V) TryInsertError) (S' : List (K × V))
       → Puts key_bytes (option_map (λ pair. pair.1)) S (key, value) (kept key_bytes S (key, value)) r S'
       → Puts (λ k. k) (option_map (λ pair. pair.1)) (map shown S) (key_bytes key, value) (key_bytes key, value) r (map shown S')
-  Puts-view S key value (Ok answer) S' h = (
+  Puts-view S key value (Ok reply) S' h = (
     list_any-map shown (λ y. conflicts (first y) (key_bytes key)) S ∙ h.0,
     subst (λ k. IsPut first (map shown S) (k, value) (map shown S')) (kept_bytes key_bytes S (key, value)) (put_map shown first S S' (kept key_bytes S (key, value)) h.1),
     h.2 ∙ sym (value-view S (key_bytes key)),

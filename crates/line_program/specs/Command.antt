@@ -1,8 +1,7 @@
 -- The commands that a line may be.
 use Rattle.std.specs.Prelude.{ℕ, Bool, ◌==◌, ◌&&◌, nat_le, if◌then◌else◌, List, [], ◌∷◌, length, Option, Some, None, Result, Ok, Err, option_map, bytes_eq, codes}
-use Rattle.std.specs.List.{slice_split, list_all}
-use Rattle.std.specs.Char.{is_ascii_digit}
-use Rattle.std.specs.Str.Parse.{digits_value}
+use Rattle.std.specs.List.{slice_split}
+use Rattle.decimals.specs.Decimal.{read_number}
 use Rattle.hex.specs.Hex.{decode_of}
 
 -- the parts of a line between single spaces
@@ -18,17 +17,9 @@ from_ok (Err e) = None
 abbrev pub key_of : List ℕ → Option (List ℕ)
 key_of word = if bytes_eq word (codes "-") then Some [] else if length word == 0 then None else from_ok (decode_of word)
 
--- 1 to 20 decimal digits
-abbrev pub is_numeral : List ℕ → Bool
-is_numeral word = nat_le 1 (length word) && nat_le (length word) 20 && list_all is_ascii_digit word
-
--- a number, if it is at most 18446744073709551615
-abbrev pub below_limit : ℕ → Option ℕ
-below_limit n = if nat_le n 18446744073709551615 then Some n else None
-
--- the value of 1 to 20 decimal digits, if it is not too large
+-- the number that 1 to 20 decimal digits make, if it is less than 2^64
 abbrev pub number_of : List ℕ → Option ℕ
-number_of word = if is_numeral word then below_limit (digits_value 10 word) else None
+number_of word = if nat_le (length word) 20 then read_number word else None
 
 -- a command, with the bytes of its keys
 pub data Command : Type 0 where

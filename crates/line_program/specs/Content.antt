@@ -2,7 +2,7 @@
 use Rattle.std.specs.Prelude.{ℕ, List, map, Vec}
 use Rattle.std.specs.Global.{Global}
 use Rattle.blart_map.specs.Content.{Numbered, pairs}
-use Rattle.line_program.specs.Answers.{Pairs}
+use Rattle.line_program.specs.Results.{Pairs}
 
 -- keys and their values
 abbrev pub Stored : Type 0

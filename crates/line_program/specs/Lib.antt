@@ -1,8 +1,7 @@
 pub mod Watched
-pub mod Faults
 pub mod Lines
 pub mod Command
-pub mod Answers
+pub mod Results
 pub mod Replies
 pub mod RunEnds
 pub mod Content

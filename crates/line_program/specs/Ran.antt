@@ -4,8 +4,8 @@ use Rattle.std.specs.Io.KnownBytes.{Consumes, IsAtEnd}
 use Rattle.line_program.specs.declared.error.RunError.{RunError}
 use Rattle.line_program.specs.declared.error.RunError.TheVariants.{Read, Write, Memory}
 use Rattle.line_program.specs.Lines.{with_last}
-use Rattle.line_program.specs.Answers.{Pairs}
-use Rattle.line_program.specs.Replies.{AnswersInTurn}
+use Rattle.line_program.specs.Results.{Pairs}
+use Rattle.line_program.specs.Replies.{RepliesInTurn}
 use Rattle.line_program.specs.Sent.{Sends}
 use Rattle.line_program.specs.Serves.{State, Serves, Stops}
 
@@ -24,16 +24,16 @@ IsReadAll (Err Write) was is reader_mark before after writer_mark old new =
 IsReadAll (Err Memory) was is reader_mark before after writer_mark old new =
     (read : List ℕ) × Consumes was is read × Stops Memory before after writer_mark read old × (reader_mark ≡ false)
 
--- the line is answered if it has any bytes
-pub record IsLastAnswered (before after : Option (List ℕ)) (old : State) (rest : List ℕ) : Type 0 where
+-- there is a reply to the line if it has any bytes
+pub record IsLastReplied (before after : Option (List ℕ)) (old : State) (rest : List ℕ) : Type 0 where
   pub out : List ℕ
   pub content : Pairs
-  pub answered : AnswersInTurn old.content (with_last [] old.line) out content
+  pub replied : RepliesInTurn old.content (with_last [] old.line) out content
   pub sent : Sends before after (old.waiting ++ out) rest
 
 -- how the end of the input is served
 abbrev pub IsFinished : Result (Unit {0}) RunError → Option (List ℕ) → Option (List ℕ) → Bool → State → Type 0
-IsFinished (Ok done) before after mark old = IsLastAnswered before after old [] × (mark ≡ false)
-IsFinished (Err Write) before after mark old = ((left : List ℕ) × IsLastAnswered before after old left) × (mark ≡ true)
+IsFinished (Ok done) before after mark old = IsLastReplied before after old [] × (mark ≡ false)
+IsFinished (Err Write) before after mark old = ((left : List ℕ) × IsLastReplied before after old left) × (mark ≡ true)
 IsFinished (Err Memory) before after mark old = ⊥
 IsFinished (Err Read) before after mark old = ⊥

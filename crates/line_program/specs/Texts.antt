@@ -1,10 +1,10 @@
--- What a clause reads of an answer.
+-- What a clause reads of a reply.
 use Rattle.std.specs.Prelude.{ℕ, List, ◌++◌, codes, decimal}
-use Rattle.line_program.specs.declared.text.Answer.{Answer}
-use Rattle.line_program.specs.declared.text.Answer.TheVariants.{None as Nothing, Value, Old, End, Len, Removed, RefusedPrefix, RefusedMemory, RefusedBounds, RefusedLine}
+use Rattle.line_program.specs.declared.text.ReplyLine.{ReplyLine}
+use Rattle.line_program.specs.declared.text.ReplyLine.TheVariants.{None as Nothing, Value, Old, End, Len, Removed, RefusedPrefix, RefusedMemory, RefusedBounds, RefusedLine}
 
--- an answer's text
-abbrev pub text_of : Answer → List ℕ
+-- a reply's text
+abbrev pub text_of : ReplyLine → List ℕ
 text_of Nothing = codes "none"
 text_of (Value n) = decimal n
 text_of (Old n) = codes "old " ++ decimal n

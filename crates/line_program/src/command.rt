@@ -1,10 +1,8 @@
 //! The commands that a line may hold.
 ghost use Rattle.std.specs.Prelude.{◌≡◌, ◌==◌, ◌<◌, ◌+◌, ◌*◌, true, [], ◌∷◌, length, IfSome, MatchOption, is_some};
 ghost use Rattle.std.specs.List.{position, list_all};
-ghost use Rattle.std.specs.Char.{is_ascii_digit};
-ghost use Rattle.std.specs.Str.Parse.{digits_value};
 ghost use Rattle.hex.specs.Hex.{is_hex_digit, decode_of};
-ghost use Rattle.line_program.specs.Command.{key_of, from_ok, below_limit, number_of, words_of};
+ghost use Rattle.line_program.specs.Command.{key_of, from_ok, number_of, words_of};
 ghost use Rattle.line_program.specs.Command as spec;
 ghost use Rattle.line_program.specs.Parsed.{Parses, AreWords};
 
@@ -173,40 +171,13 @@ fn is_hex(byte: u8) -> bool
 
 // ---- numbers
 
+/// Returns the number that the word is, if it is 1 to 20 digits, and less than 2^64.
 fn number(word: &[u8]) -> Option<u64>
     ensures { result ≡ number_of word.now }
 {
-    if is_numeral(word) {
-        value_of(word)
+    if word.len() <= 20 {
+        decimals::number_of(word)
     } else {
         None
-    }
-}
-
-/// Returns `true` if the word is 1 to 20 digits.
-fn is_numeral(word: &[u8]) -> bool
-    ensures { result ≡ spec.is_numeral word.now }
-{
-    if word.is_empty() || 20 < word.len() {
-        false
-    } else {
-        is_all_digits(word)
-    }
-}
-
-fn is_all_digits(text: &[u8]) -> bool
-    ensures { result ≡ list_all is_ascii_digit text.now }
-{
-    text.iter().all(|b| b.is_ascii_digit())
-}
-
-/// Returns the value of the digits, if it is below 2^64.
-fn value_of(digits: &[u8]) -> Option<u64>
-    requires { spec.is_numeral digits.now ≡ true }
-    ensures { result ≡ below_limit (digits_value 10 digits.now) }
-{
-    match str::from_utf8(digits) {
-        Ok(text) => text.parse().ok(),
-        Err(_) => unreachable!(),
     }
 }

@@ -1,7 +1,4 @@
 //! The errors that end a run.
-ghost use Rattle.std.specs.Prelude.{◌≡◌};
-ghost use Rattle.line_program.specs.Faults.{fault_text};
-
 use thiserror::Error;
 
 /// The error of a run that ended before the end of its input.
@@ -16,17 +13,4 @@ pub enum RunError {
     /// A line failed to grow.
     #[error("out of memory")]
     Memory,
-}
-
-/// Returns the line that the program writes on standard error.
-///
-/// Cost: none.
-pub fn fault_line(error: RunError) -> &'static str
-    ensures { result.now ≡ fault_text error }
-{
-    match error {
-        RunError::Read => "artmap: read failed",
-        RunError::Write => "artmap: write failed",
-        RunError::Memory => "artmap: out of memory",
-    }
 }

@@ -1,6 +1,6 @@
 //! Laws of the texts of keys and numbers, each as a function whose contract is the law.
 ghost use Rattle.std.specs.Prelude.{◌≡◌, Some, decimal};
-ghost use Rattle.line_program.specs.Answers.{key_text};
+ghost use Rattle.line_program.specs.Results.{key_text};
 ghost use Rattle.line_program.specs.Command.{key_of, number_of};
 
 /// Does nothing. Its contract is a law of the program's texts: a key that is written is read as the

@@ -12,7 +12,7 @@ mod session;
 mod text;
 mod watched;
 
-pub use error::{RunError, fault_line};
+pub use error::RunError;
 pub use laws::{key_text_law, number_text_law};
 pub use program::run;
 pub use watched::Watched;

@@ -39,7 +39,7 @@ pub fn run<R: Read, W: Write>(
     requires reader { watched_failed reader.old ≡ false }
     requires writer { watched_failed writer.old ≡ false }
     // If both tell their bytes, and the input is short enough for the number of reads.
-    ensures answered { (input before : List ℕ) → R.remaining (watched_inner reader.old) ≡ Some input
+    ensures replied { (input before : List ℕ) → R.remaining (watched_inner reader.old) ≡ Some input
         → length input < 2 ^ 64 - 1
         → W.contents (watched_inner writer.old) ≡ Some before
         → (read rest written : List ℕ) × (input ≡ read ++ rest)

@@ -9,7 +9,7 @@ ghost use Rattle.line_program.specs.Watched.{watched_inner, watched_failed};
 ghost use Rattle.line_program.specs.Sent.{IsSent};
 ghost use Rattle.line_program.specs.Lines.{ended};
 ghost use Rattle.line_program.specs.Command.{key_of, Insert, Get, Remove, RemovePrefix, PrefixGet, Overwrite, ListPrefix, ListRange};
-ghost use Rattle.line_program.specs.Answers.{AnswersOrRefuses, listing, range_lines, found_text, inserted_text, value_text};
+ghost use Rattle.line_program.specs.Results.{HasResultOrFails, listing, range_lines, found_text, inserted_text, value_text};
 ghost use Rattle.line_program.specs.Texts.{text_of};
 ghost use Rattle.line_program.specs.Content.{Stored, pair_of, content_of, by_bytes};
 ghost use Rattle.line_program.specs.Replied.{IsReplied};
@@ -17,7 +17,7 @@ ghost use Rattle.line_program.specs.Replied.{IsReplied};
 use crate::command::{Command, parse};
 use crate::error::RunError;
 use crate::output::Outbox;
-use crate::text::{Answer, write_answer, write_pair};
+use crate::text::{ReplyLine, write_line, write_pair};
 use crate::watched::Watched;
 use blart_map::{DEFAULT_PREFIX_LEN, TreeMap, TryInsertError, bounds_in_order};
 use std::alloc::Global;
@@ -43,90 +43,90 @@ pub(crate) fn reply<W: Write>(
 {
     match parse(line) {
         Some(Command::Insert(word, value)) => {
-            let answer = insert(map, alloc, word, value);
-            write_answer(answer, outbox, writer)
+            let reply = insert(map, alloc, word, value);
+            write_line(reply, outbox, writer)
         }
         Some(Command::Get(word)) => {
-            let answer = get(map, alloc, word);
-            write_answer(answer, outbox, writer)
+            let reply = get(map, alloc, word);
+            write_line(reply, outbox, writer)
         }
         Some(Command::Remove(word)) => {
-            let answer = remove(map, alloc, word);
-            write_answer(answer, outbox, writer)
+            let reply = remove(map, alloc, word);
+            write_line(reply, outbox, writer)
         }
         Some(Command::RemovePrefix(word)) => {
-            let answer = remove_prefix(map, alloc, word);
-            write_answer(answer, outbox, writer)
+            let reply = remove_prefix(map, alloc, word);
+            write_line(reply, outbox, writer)
         }
         Some(Command::PrefixGet(word)) => write_front(map, alloc, word, outbox, writer),
         Some(Command::Overwrite(word, value)) => {
-            let answer = overwrite(map, alloc, word, value);
-            write_answer(answer, outbox, writer)
+            let reply = overwrite(map, alloc, word, value);
+            write_line(reply, outbox, writer)
         }
         Some(Command::List) => write_list(map, outbox, writer),
         Some(Command::Prefix(word)) => write_prefix(map, alloc, word, outbox, writer),
         Some(Command::Range(first, second)) => {
             write_range(map, alloc, first, second, outbox, writer)
         }
-        None => write_answer(Answer::RefusedLine, outbox, writer),
+        None => write_line(ReplyLine::RefusedLine, outbox, writer),
     }
 }
 
-fn insert(map: &mut Pairs, alloc: Global, word: &[u8], value: u64) -> Answer
+fn insert(map: &mut Pairs, alloc: Global, word: &[u8], value: u64) -> ReplyLine
     ensures { (key : List ℕ) → key_of word.now ≡ Some key
-        → AnswersOrRefuses (content_of map.old) (Insert key value) (text_of result ∷ [])
+        → HasResultOrFails (content_of map.old) (Insert key value) (text_of result ∷ [])
         (content_of map.new) }
 {
     match decode_key(alloc, word) {
-        Some(key) => inserted_answer(map.try_insert(key, value)),
-        None => Answer::RefusedMemory,
+        Some(key) => inserted_line(map.try_insert(key, value)),
+        None => ReplyLine::RefusedMemory,
     }
 }
 
-fn get(map: &Pairs, alloc: Global, word: &[u8]) -> Answer
+fn get(map: &Pairs, alloc: Global, word: &[u8]) -> ReplyLine
     ensures { (key : List ℕ) → key_of word.now ≡ Some key
-        → AnswersOrRefuses (content_of map.now) (Get key) (text_of result ∷ [])
+        → HasResultOrFails (content_of map.now) (Get key) (text_of result ∷ [])
         (content_of map.now) }
 {
     match decode_key(alloc, word) {
-        Some(key) => value_answer(map.get(&key).copied()),
-        None => Answer::RefusedMemory,
+        Some(key) => value_line(map.get(&key).copied()),
+        None => ReplyLine::RefusedMemory,
     }
 }
 
-fn remove(map: &mut Pairs, alloc: Global, word: &[u8]) -> Answer
+fn remove(map: &mut Pairs, alloc: Global, word: &[u8]) -> ReplyLine
     ensures { (key : List ℕ) → key_of word.now ≡ Some key
-        → AnswersOrRefuses (content_of map.old) (Remove key) (text_of result ∷ [])
+        → HasResultOrFails (content_of map.old) (Remove key) (text_of result ∷ [])
         (content_of map.new) }
 {
     match decode_key(alloc, word) {
-        Some(key) => value_answer(map.remove(&key)),
-        None => Answer::RefusedMemory,
+        Some(key) => value_line(map.remove(&key)),
+        None => ReplyLine::RefusedMemory,
     }
 }
 
-fn remove_prefix(map: &mut Pairs, alloc: Global, word: &[u8]) -> Answer
+fn remove_prefix(map: &mut Pairs, alloc: Global, word: &[u8]) -> ReplyLine
     ensures { (key : List ℕ) → key_of word.now ≡ Some key
-        → AnswersOrRefuses (content_of map.old) (RemovePrefix key) (text_of result ∷ [])
+        → HasResultOrFails (content_of map.old) (RemovePrefix key) (text_of result ∷ [])
         (content_of map.new) }
 {
     match decode_key(alloc, word) {
-        Some(key) => Answer::Removed(map.remove_prefix(&key)),
-        None => Answer::RefusedMemory,
+        Some(key) => ReplyLine::Removed(map.remove_prefix(&key)),
+        None => ReplyLine::RefusedMemory,
     }
 }
 
-fn overwrite(map: &mut Pairs, alloc: Global, word: &[u8], value: u64) -> Answer
+fn overwrite(map: &mut Pairs, alloc: Global, word: &[u8], value: u64) -> ReplyLine
     ensures { (key : List ℕ) → key_of word.now ≡ Some key
-        → AnswersOrRefuses (content_of map.old) (Overwrite key value) (text_of result ∷ [])
+        → HasResultOrFails (content_of map.old) (Overwrite key value) (text_of result ∷ [])
         (content_of map.new) }
 {
     match decode_key(alloc, word) {
         Some(key) => match map.prefix_insert(key, value) {
-            Ok(()) => Answer::Len(map.len()),
-            Err(_) => Answer::RefusedMemory,
+            Ok(()) => ReplyLine::Len(map.len()),
+            Err(_) => ReplyLine::RefusedMemory,
         },
-        None => Answer::RefusedMemory,
+        None => ReplyLine::RefusedMemory,
     }
 }
 
@@ -141,23 +141,23 @@ fn decode_key(alloc: Global, word: &[u8]) -> Option<Vec<u8>>
     hex::decode(alloc, word).ok()
 }
 
-fn inserted_answer(outcome: Result<Option<u64>, TryInsertError>) -> Answer
+fn inserted_line(outcome: Result<Option<u64>, TryInsertError>) -> ReplyLine
     ensures { text_of result ≡ inserted_text outcome }
 {
     match outcome {
-        Ok(Some(value)) => Answer::Old(value),
-        Ok(None) => Answer::None,
-        Err(TryInsertError::Prefix(_)) => Answer::RefusedPrefix,
-        Err(TryInsertError::Memory(_)) => Answer::RefusedMemory,
+        Ok(Some(value)) => ReplyLine::Old(value),
+        Ok(None) => ReplyLine::None,
+        Err(TryInsertError::Prefix(_)) => ReplyLine::RefusedPrefix,
+        Err(TryInsertError::Memory(_)) => ReplyLine::RefusedMemory,
     }
 }
 
-fn value_answer(value: Option<u64>) -> Answer
+fn value_line(value: Option<u64>) -> ReplyLine
     ensures { text_of result ≡ value_text value }
 {
     match value {
-        Some(value) => Answer::Value(value),
-        None => Answer::None,
+        Some(value) => ReplyLine::Value(value),
+        None => ReplyLine::None,
     }
 }
 
@@ -171,7 +171,7 @@ fn write_front<W: Write>(
 ) -> Result<(), RunError>
     requires { watched_failed writer.old ≡ false }
     ensures { (key : List ℕ) → key_of word.now ≡ Some key
-        → (text : List ℕ) × AnswersOrRefuses (content_of map.now) (PrefixGet key) (text ∷ [])
+        → (text : List ℕ) × HasResultOrFails (content_of map.now) (PrefixGet key) (text ∷ [])
         (content_of map.now)
         × IsSent result (W.contents (watched_inner writer.old))
         (W.contents (watched_inner writer.new))
@@ -179,7 +179,7 @@ fn write_front<W: Write>(
 {
     match decode_key(alloc, word) {
         Some(key) => write_found(map.prefix_get_key_value(&key), outbox, writer),
-        None => write_answer(Answer::RefusedMemory, outbox, writer),
+        None => write_line(ReplyLine::RefusedMemory, outbox, writer),
     }
 }
 
@@ -199,7 +199,7 @@ fn write_found<W: Write>(
 {
     match found {
         Some((key, value)) => write_pair(key, *value, outbox, writer),
-        None => write_answer(Answer::None, outbox, writer),
+        None => write_line(ReplyLine::None, outbox, writer),
     }
 }
 
@@ -228,7 +228,7 @@ fn write_prefix<W: Write>(
 ) -> Result<(), RunError>
     requires { watched_failed writer.old ≡ false }
     ensures { (key : List ℕ) → key_of word.now ≡ Some key
-        → (lines : List (List ℕ)) × AnswersOrRefuses (content_of map.now) (ListPrefix key) lines
+        → (lines : List (List ℕ)) × HasResultOrFails (content_of map.now) (ListPrefix key) lines
         (content_of map.now)
         × IsSent result (W.contents (watched_inner writer.old))
         (W.contents (watched_inner writer.new))
@@ -236,7 +236,7 @@ fn write_prefix<W: Write>(
 {
     match decode_key(alloc, word) {
         Some(key) => { write_listing(map.prefix(&key), outbox, writer) }
-        None => write_answer(Answer::RefusedMemory, outbox, writer),
+        None => write_line(ReplyLine::RefusedMemory, outbox, writer),
     }
 }
 
@@ -251,7 +251,7 @@ fn write_range<W: Write>(
 ) -> Result<(), RunError>
     requires { watched_failed writer.old ≡ false }
     ensures { (low high : List ℕ) → key_of first.now ≡ Some low → key_of second.now ≡ Some high
-        → (lines : List (List ℕ)) × AnswersOrRefuses (content_of map.now) (ListRange low high) lines
+        → (lines : List (List ℕ)) × HasResultOrFails (content_of map.now) (ListRange low high) lines
         (content_of map.now)
         × IsSent result (W.contents (watched_inner writer.old))
         (W.contents (watched_inner writer.new))
@@ -259,7 +259,7 @@ fn write_range<W: Write>(
 {
     match decode_both(alloc, first, second) {
         Some((low, high)) => write_between(map, &low, &high, outbox, writer),
-        None => write_answer(Answer::RefusedMemory, outbox, writer),
+        None => write_line(ReplyLine::RefusedMemory, outbox, writer),
     }
 }
 
@@ -288,7 +288,7 @@ fn write_between<W: Write>(
         (range_lines (content_of map.now) low.now.items high.now.items)) outbox.new }
 {
     if !is_range(map, low, high) {
-        return write_answer(Answer::RefusedBounds, outbox, writer);
+        return write_line(ReplyLine::RefusedBounds, outbox, writer);
     }
     let walk = map.range(Bound::Included(low), Bound::Excluded(high));
     write_listing(walk, outbox, writer)
@@ -323,5 +323,5 @@ fn write_listing<'a, I: Iterator<Item = (&'a Vec<u8>, &'a u64)> + Drop, W: Write
         write_pair(key, *value, outbox, writer)?;
         count += 1;
     }
-    write_answer(Answer::End(count), outbox, writer)
+    write_line(ReplyLine::End(count), outbox, writer)
 }

@@ -2,7 +2,7 @@
 ghost use Rattle.std.specs.Prelude.{◌≡◌, ◌<◌, ◌+◌, [], length, take, slice_index, false, OnOk, MatchOption};
 ghost use Rattle.line_program.specs.Watched.{watched_inner, watched_failed};
 ghost use Rattle.line_program.specs.Lines.{IsLine};
-ghost use Rattle.line_program.specs.Serves.{IsGrown, IsAnswered, IsStepped, IsServed};
+ghost use Rattle.line_program.specs.Serves.{IsGrown, IsLineReplied, IsStepped, IsServed};
 ghost use Rattle.line_program.specs.Ran.{IsFinished};
 
 use crate::error::RunError;
@@ -52,9 +52,9 @@ impl Session {
     }
 
     /// Writes the reply to the line, and empties the line for the next.
-    fn answer<W: Write>(&mut self, writer: &mut Watched<W>) -> Result<(), RunError>
+    fn reply<W: Write>(&mut self, writer: &mut Watched<W>) -> Result<(), RunError>
         requires { watched_failed writer.old ≡ false }
-        ensures { IsAnswered result (W.contents (watched_inner writer.old))
+        ensures { IsLineReplied result (W.contents (watched_inner writer.old))
             (W.contents (watched_inner writer.new))
             (watched_failed writer.new) (state_of self.old) (state_of self.new) }
     {
@@ -82,7 +82,7 @@ impl Session {
         match first_feed(bytes) {
             Some(at) => {
                 self.grow(writer, front(bytes, at))?;
-                self.answer(writer)?;
+                self.reply(writer)?;
                 Ok(at + 1)
             }
             None => {
@@ -122,7 +122,7 @@ impl Session {
         if self.line.is_empty() {
             return self.outbox.flush(writer);
         }
-        self.answer(writer)?;
+        self.reply(writer)?;
         self.outbox.flush(writer)
     }
 }

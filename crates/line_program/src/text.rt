@@ -4,7 +4,7 @@ ghost use Rattle.hex.specs.Hex.{encode_lower, lower_digits};
 ghost use Rattle.line_program.specs.Watched.{watched_inner, watched_failed};
 ghost use Rattle.line_program.specs.Sent.{IsSent};
 ghost use Rattle.line_program.specs.Lines.{ended};
-ghost use Rattle.line_program.specs.Answers.{key_text, pair_text};
+ghost use Rattle.line_program.specs.Results.{key_text, pair_text};
 ghost use Rattle.line_program.specs.Texts.{text_of};
 
 use crate::error::RunError;
@@ -14,7 +14,7 @@ use std::io::Write;
 
 /// A reply of one line without a key.
 #[derive(Clone, Copy)]
-pub(crate) enum Answer {
+pub(crate) enum ReplyLine {
     None,
     Value(u64),
     Old(u64),
@@ -28,39 +28,39 @@ pub(crate) enum Answer {
 }
 
 /// Writes the reply as a line.
-pub(crate) fn write_answer<W: Write>(
-    answer: Answer,
+pub(crate) fn write_line<W: Write>(
+    reply: ReplyLine,
     outbox: &mut Outbox,
     writer: &mut Watched<W>,
 ) -> Result<(), RunError>
     requires { watched_failed writer.old ≡ false }
     ensures { IsSent result (W.contents (watched_inner writer.old))
         (W.contents (watched_inner writer.new))
-        (watched_failed writer.new) (outbox.old ++ ended (text_of answer)) outbox.new }
+        (watched_failed writer.new) (outbox.old ++ ended (text_of reply)) outbox.new }
 {
     outbox.make_room(writer, 32)?;
-    append_answer(answer, outbox);
+    append_line(reply, outbox);
     outbox.push(b'\n');
     Ok(())
 }
 
 /// Adds the reply's text, which has at most 31 bytes.
-fn append_answer(answer: Answer, outbox: &mut Outbox)
+fn append_line(reply: ReplyLine, outbox: &mut Outbox)
     requires { length outbox.old + 31 ≤ 8192 }
-    ensures after { outbox.new ≡ outbox.old ++ text_of answer }
+    ensures after { outbox.new ≡ outbox.old ++ text_of reply }
     ensures room { length outbox.new ≤ length outbox.old + 31 }
 {
-    match answer {
-        Answer::None => outbox.append(b"none"),
-        Answer::Value(number) => append_decimal(number, outbox),
-        Answer::Old(number) => append_counted(b"old ", number, outbox),
-        Answer::End(count) => append_counted(b"end ", count as u64, outbox),
-        Answer::Len(count) => append_counted(b"len ", count as u64, outbox),
-        Answer::Removed(count) => append_counted(b"removed ", count as u64, outbox),
-        Answer::RefusedPrefix => outbox.append(b"refused prefix"),
-        Answer::RefusedMemory => outbox.append(b"refused memory"),
-        Answer::RefusedBounds => outbox.append(b"refused bounds"),
-        Answer::RefusedLine => outbox.append(b"refused line"),
+    match reply {
+        ReplyLine::None => outbox.append(b"none"),
+        ReplyLine::Value(number) => append_decimal(number, outbox),
+        ReplyLine::Old(number) => append_counted(b"old ", number, outbox),
+        ReplyLine::End(count) => append_counted(b"end ", count as u64, outbox),
+        ReplyLine::Len(count) => append_counted(b"len ", count as u64, outbox),
+        ReplyLine::Removed(count) => append_counted(b"removed ", count as u64, outbox),
+        ReplyLine::RefusedPrefix => outbox.append(b"refused prefix"),
+        ReplyLine::RefusedMemory => outbox.append(b"refused memory"),
+        ReplyLine::RefusedBounds => outbox.append(b"refused bounds"),
+        ReplyLine::RefusedLine => outbox.append(b"refused line"),
     }
 }
 

@@ -1,8 +1,5 @@
 -- What the words of a line mean.
 use Rattle.std.specs.Prelude.{ℕ, Bool, ◌==◌, ◌&&◌, ◌||◌, nat_le, if◌then◌else◌, List, [], length, Option, Some, None, Result, Ok, Err, bytes_eq, codes}
-use Rattle.std.specs.List.{list_all}
-use Rattle.std.specs.Char.{is_ascii_digit}
-use Rattle.std.specs.Str.Parse.{digits_value}
 use Rattle.hex.specs.Hex.{decode_of}
 
 -- the value of an `Ok`
@@ -13,18 +10,6 @@ from_ok (Err e) = None
 -- `-` is no bytes; other words are two or more hexadecimal digits, in an even number
 abbrev pub read_bytes : List ℕ → Option (List ℕ)
 read_bytes word = if bytes_eq word (codes "-") then Some [] else if length word == 0 then None else from_ok (decode_of word)
-
--- one or more decimal digits
-abbrev pub is_numeral : List ℕ → Bool
-is_numeral word = nat_le 1 (length word) && list_all is_ascii_digit word
-
--- a number, if it is below 2^64
-abbrev pub below_limit : ℕ → Option ℕ
-below_limit n = if nat_le n 18446744073709551615 then Some n else None
-
--- the number that decimal digits make, if it is below 2^64
-abbrev pub read_number : List ℕ → Option ℕ
-read_number word = if is_numeral word then below_limit (digits_value 10 word) else None
 
 -- a step from the front, one from the back, or the number of items left
 abbrev pub is_step : ℕ → Bool

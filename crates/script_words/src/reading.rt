@@ -1,13 +1,11 @@
 //! The words of a line, and the values that they stand for.
 ghost use Rattle.std.specs.Prelude.{◌≡◌, true, IfOk, Some, Contains};
 ghost use Rattle.std.specs.List.{list_all};
-ghost use Rattle.std.specs.Char.{is_ascii_digit};
-ghost use Rattle.std.specs.Str.Parse.{digits_value};
-ghost use Rattle.script_words.specs.Words.{read_bytes, read_number, below_limit, is_step, is_decision};
-ghost use Rattle.script_words.specs.Words as spec;
+ghost use Rattle.script_words.specs.Words.{read_bytes, is_step, is_decision};
 
 use crate::answered::{Answered, Unanswered};
 use crate::keys::ScriptKey;
+use decimals::number_of;
 use hex::FromHexError;
 use std::alloc::{AllocError, Global};
 use std::ops::Bound;
@@ -304,46 +302,5 @@ fn bytes_of(alloc: Global, word: &[u8]) -> Result<Vec<u8>, Unanswered>
         Ok(bytes) => Ok(bytes),
         Err(FromHexError::OutOfMemory) => Err(Unanswered::Memory(AllocError)),
         Err(_) => Err(Unanswered::NoCall),
-    }
-}
-
-// ---- numbers
-
-/// Returns the number that the word is, if it is digits and below 2^64.
-fn number_of(word: &[u8]) -> Option<u64>
-    ensures { result ≡ read_number word.now }
-{
-    if is_numeral(word) {
-        value_of(word)
-    } else {
-        None
-    }
-}
-
-/// Returns `true` if the word is decimal digits, at least one.
-fn is_numeral(word: &[u8]) -> bool
-    ensures { result ≡ spec.is_numeral word.now }
-{
-    if word.is_empty() {
-        false
-    } else {
-        is_all_digits(word)
-    }
-}
-
-fn is_all_digits(word: &[u8]) -> bool
-    ensures { result ≡ list_all is_ascii_digit word.now }
-{
-    word.iter().all(|byte| byte.is_ascii_digit())
-}
-
-/// Returns the value of the digits, if it is below 2^64.
-fn value_of(digits: &[u8]) -> Option<u64>
-    requires { spec.is_numeral digits.now ≡ true }
-    ensures { result ≡ below_limit (digits_value 10 digits.now) }
-{
-    match str::from_utf8(digits) {
-        Ok(text) => text.parse().ok(),
-        Err(_) => unreachable!(),
     }
 }

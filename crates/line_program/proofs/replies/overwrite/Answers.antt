@@ -1,5 +1,5 @@
 use Rattle.blart_map.specs.Content.{pairs}
-use Rattle.line_program.proofs.Answering.{overwrites, overwrites_refused}
+use Rattle.line_program.proofs.Replying.{overwrites, overwrites_refused}
 use Rattle.line_program.proofs.replies.overwrite.Goals as goal
 
 pub returns-in-Ok : goal.returns-in-Ok

@@ -1,6 +1,6 @@
 use Rattle.std.proofs.Common.{sym, ◌∙◌}
 use Rattle.blart_map.specs.Content.{pairs}
-use Rattle.line_program.proofs.Answering.{removes_prefix}
+use Rattle.line_program.proofs.Replying.{removes_prefix}
 use Rattle.line_program.proofs.replies.remove_prefix.Goals as goal
 
 pub returns-in-Some : goal.returns-in-Some

@@ -1,6 +1,6 @@
 use Rattle.std.proofs.Common.{refl, arith}
 use Rattle.blart_map.specs.Content.{pairs}
-use Rattle.line_program.proofs.Answering.{lists_between}
+use Rattle.line_program.proofs.Replying.{lists_between}
 use Rattle.line_program.proofs.Listing.{shown_all}
 use Rattle.line_program.proofs.replies.write_between.Goals as goal
 

@@ -1,6 +1,6 @@
 use Rattle.std.proofs.Common.{refl, inr, codes}
 use Rattle.blart_map.specs.Content.{pairs}
-use Rattle.line_program.proofs.Answering.{finds}
+use Rattle.line_program.proofs.Replying.{finds}
 use Rattle.line_program.proofs.replies.write_front.Goals as goal
 
 pub returns-in-Some : goal.returns-in-Some
@@ -11,4 +11,4 @@ returns-in-Some g c = λ key is. (
 )
 
 pub returns-in-None : goal.returns-in-None
-returns-in-None g c = λ key is. (codes "refused memory", inr (c.in-None.ensures key is, refl, refl), c.write_answer.ensures)
+returns-in-None g c = λ key is. (codes "refused memory", inr (c.in-None.ensures key is, refl, refl), c.write_line.ensures)

@@ -5,7 +5,7 @@ use Rattle.std.proofs.lemmas.Result.{err_from_is_err_and}
 use Rattle.std.specs.Iterator.{AlwaysYields, size}
 use Rattle.std.specs.List.{flat_map}
 use Rattle.std.specs.Prelude.{codes, decimal}
-use Rattle.line_program.specs.Answers.{listing, pair_text}
+use Rattle.line_program.specs.Results.{listing, pair_text}
 use Rattle.line_program.specs.Content.{pair_of, by_bytes}
 use Rattle.line_program.specs.Lines.{ended}
 use Rattle.line_program.proofs.Sending.{IsSent-part, IsSent-then}
@@ -47,6 +47,6 @@ returns g c = λ pairs all.
     let i = c.loop-key in
     let given = given_all g.I.Iterator.next_gives c.into_iter-key-iterator.result i.key-iterator c.next.new.self i.yielded pairs (subst (λ w. AlwaysYields g.I.Iterator.next_gives seen w pairs) (sym c.into_iter-key-iterator.ensures.into_iter_gives) all) i.yielded_by c.in-None.ensures.steps in
     let count = i.invariant.count ∙ sym (length-map i.yielded seen) ∙ ap length given ∙ sym (length-map pairs pair_of) in
-    let last = rw count at c.write_answer.ensures in
-    rw (listing_text (by_bytes pairs)) (IsSent-then _ _ _ _ c.args.outbox.now (lines_text (by_bytes pairs)) i.outbox c.write_answer.new.outbox c.write_answer.result
+    let last = rw count at c.write_line.ensures in
+    rw (listing_text (by_bytes pairs)) (IsSent-then _ _ _ _ c.args.outbox.now (lines_text (by_bytes pairs)) i.outbox c.write_line.new.outbox c.write_line.result
     (ended (codes "end " ++ decimal (length (by_bytes pairs)))) (rw given at i.invariant.sent) last)

@@ -1,8 +1,8 @@
 use Rattle.std.proofs.Common.{refl, arith, sym, inr, codes, ◌∙◌, ◌∷◌, [], append-nil}
 use Rattle.blart_map.specs.Content.{pairs}
-use Rattle.line_program.specs.Answers.{listing}
+use Rattle.line_program.specs.Results.{listing}
 use Rattle.line_program.specs.Content.{by_bytes}
-use Rattle.line_program.proofs.Answering.{lists_under}
+use Rattle.line_program.proofs.Replying.{lists_under}
 use Rattle.line_program.proofs.Listing.{shown_all}
 use Rattle.line_program.proofs.replies.write_prefix.Goals as goal
 
@@ -17,4 +17,4 @@ returns-in-Some g c = λ key is. (
 )
 
 pub returns-in-None : goal.returns-in-None
-returns-in-None g c = λ key is. (codes "refused memory" ∷ [], inr (c.in-None.ensures key is, refl, refl), rw append-nil c.write_answer.ensures)
+returns-in-None g c = λ key is. (codes "refused memory" ∷ [], inr (c.in-None.ensures key is, refl, refl), rw append-nil c.write_line.ensures)

@@ -1,5 +1,5 @@
 use Rattle.std.proofs.Common.{refl, inl, inr, codes, ◌∷◌, [], append-nil}
-use Rattle.line_program.specs.Answers.{range_lines}
+use Rattle.line_program.specs.Results.{range_lines}
 use Rattle.line_program.specs.Content.{content_of}
 use Rattle.line_program.proofs.replies.write_range.Goals as goal
 
@@ -11,4 +11,4 @@ returns-in-Some g c = λ low high is_low is_high.
 
 pub returns-in-None : goal.returns-in-None
 returns-in-None g c = λ low high is_low is_high.
-    (codes "refused memory" ∷ [], inr (c.in-None.ensures low high is_low is_high, refl, refl), rw append-nil c.write_answer.ensures)
+    (codes "refused memory" ∷ [], inr (c.in-None.ensures low high is_low is_high, refl, refl), rw append-nil c.write_line.ensures)

@@ -1,7 +1,7 @@
 use Rattle.std.proofs.Common.{◌∷◌, [], append_assoc}
 use Rattle.std.proofs.lemmas.Result.{err_from_is_err_and}
 use Rattle.std.specs.Prelude.{decimal}
-use Rattle.line_program.specs.Answers.{key_text, pair_text}
+use Rattle.line_program.specs.Results.{key_text, pair_text}
 use Rattle.line_program.specs.Lines.{ended}
 use Rattle.line_program.proofs.Sending.{IsSent-part, IsSent-then}
 use Rattle.line_program.proofs.text.write_pair.Goals as goal

@@ -11,14 +11,14 @@ returns-in_err-grow-in-Some g c =
     rw (p.1, p.2) (grow_stops _ _ _ c.in_err-grow-in-Some.field-0.0 c.front.result.now bytes (state_of c.args.self.now) (state_of c.grow.new.self)
     c.requires.line (some_bytes bytes c.requires.some) c.in_err-grow-in-Some.ensures)
 
-pub returns-in_err-answer-in-Some : goal.returns-in_err-answer-in-Some
-returns-in_err-answer-in-Some g c =
-    let r = c.from_residual-in_err-answer-in-Some in
+pub returns-in_err-reply-in-Some : goal.returns-in_err-reply-in-Some
+returns-in_err-reply-in-Some g c =
+    let r = c.from_residual-in_err-reply-in-Some in
     let p = err_from_is_err_and r.result r.ensures.1 in
     let grown = c.in_ok-grow-in-Some.ensures in
     let found = c.in-Some.ensures in
-    rw (p.1, p.2) (feed_stops _ _ _ _ c.in_err-answer-in-Some.field-0.0 c.in-Some.at c.front.result.now c.args.bytes.now (state_of c.args.self.now) (state_of c.grow.new.self)
-    (state_of c.answer.new.self) c.front.ensures grown.0 grown.1 found.0 found.1 found.2 c.requires.line c.in_err-answer-in-Some.ensures)
+    rw (p.1, p.2) (feed_stops _ _ _ _ c.in_err-reply-in-Some.field-0.0 c.in-Some.at c.front.result.now c.args.bytes.now (state_of c.args.self.now) (state_of c.grow.new.self)
+    (state_of c.reply.new.self) c.front.ensures grown.0 grown.1 found.0 found.1 found.2 c.requires.line c.in_err-reply-in-Some.ensures)
 
 pub returns-in_err-grow-in-None : goal.returns-in_err-grow-in-None
 returns-in_err-grow-in-None g c =
@@ -28,16 +28,16 @@ returns-in_err-grow-in-None g c =
     rw (p.1, p.2) (grow_stops _ _ _ c.in_err-grow-in-None.field-0.0 bytes bytes (state_of c.args.self.now) (state_of c.grow-in-None.new.self)
     c.requires.line (some_bytes bytes c.requires.some) c.in_err-grow-in-None.ensures)
 
-pub returns-in_ok-answer-in-Some : goal.returns-in_ok-answer-in-Some
-returns-in_ok-answer-in-Some g c =
+pub returns-in_ok-reply-in-Some : goal.returns-in_ok-reply-in-Some
+returns-in_ok-reply-in-Some g c =
     let grown = c.in_ok-grow-in-Some.ensures in
     let found = c.in-Some.ensures in
-    let answered = c.in_ok-answer-in-Some.ensures in (
+    let replied = c.in_ok-reply-in-Some.ensures in (
       omega arith,
       omega (arith, found.0),
       feed_serves _ _ _ c.in-Some.at c.front.result.now c.args.bytes.now (state_of c.args.self.now) (state_of c.grow.new.self)
-          (state_of c.answer.new.self) c.front.ensures grown.0 grown.1 found.0 found.1 found.2 c.requires.line answered.0 answered.1,
-      answered.2,
+          (state_of c.reply.new.self) c.front.ensures grown.0 grown.1 found.0 found.1 found.2 c.requires.line replied.0 replied.1,
+      replied.2,
     )
 
 pub returns-in_ok-grow-in-None : goal.returns-in_ok-grow-in-None
