@@ -1,5 +1,5 @@
 //! The tree.
-ghost use Rattle.std.specs.Prelude.{◌≡◌, ◌==◌, ◌+◌, ◌-◌, ◌≤◌, [], length, map, Some, None, OnOk, OnErr};
+ghost use Rattle.std.specs.Prelude.{◌≡◌, ◌==◌, ◌+◌, ◌-◌, ◌<◌, ◌≤◌, [], length, map, Some, None, OnOk, OnErr};
 ghost use Rattle.std.specs.FinSet as set;
 ghost use Rattle.blart_keys.specs.Content.{IsContent, IsPut};
 ghost use Rattle.blart_keys.specs.Steps.{bytes as pair_bytes};
@@ -224,12 +224,14 @@ impl<K: AsBytes, V, const PREFIX_LEN: usize> Tree<K, V, PREFIX_LEN> {
     /// Returns the number of children of the inner node at this prefix, or 0 if there is no such
     /// node.
     ///
-    /// Cost: at most L + 1 visits, if the longest key has L bytes.
+    /// Cost: at most L + 1 visits, if the longest key has L bytes. It makes at least one visit if
+    /// there is such a node.
     pub fn children_at(&self, front: &[u8], visits: &mut Visits) -> usize
         ensures value { result ≡ set.len (parts (bytes K.bytes) self.now.pairs front.now) }
         ensures counted { visits.new.count
             ≤ visits.old.count + longest (bytes K.bytes) self.now.pairs + 1 }
         ensures grows { visits.old.count ≤ visits.new.count }
+        ensures some_counted { 0 < result → visits.old.count < visits.new.count }
     {
         self.leaves.law();
         match self.root {
@@ -300,6 +302,7 @@ fn children_below<K: AsBytes, V, const P: usize>(
     ensures counted { visits.new.count
         ≤ visits.old.count + longest (bytes K.bytes) leaves.now.pairs + 1 }
     ensures grows { visits.old.count ≤ visits.new.count }
+    ensures some_counted { 0 < result → visits.old.count < visits.new.count }
 {
     leaves.law();
     let Some(found) = children_of(nodes, root, front, visits) else {

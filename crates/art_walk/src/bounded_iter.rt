@@ -1,6 +1,6 @@
 //! Iterators over the pairs within bounds, over those whose keys begin with some bytes, and over
 //! those from one leaf through another.
-ghost use Rattle.std.specs.Prelude.{◌≡◌, ◌+◌, ◌≤◌, [], length};
+ghost use Rattle.std.specs.Prelude.{◌≡◌, ◌≢◌, ◌+◌, ◌<◌, ◌≤◌, [], length};
 ghost use Rattle.std.specs.Iterator.{YieldsFirstBy, YieldsLastBy, item_count};
 ghost use Rattle.blart_keys.specs.Bounds.{slice_bound, CanRange};
 ghost use Rattle.blart_keys.specs.Content.{between, under};
@@ -57,7 +57,7 @@ impl<'a, K: AsBytes, V, const PREFIX_LEN: usize> BoundedIter<'a, K, V, InRange, 
     /// pairs, the bounds must be in order.
     ///
     /// Cost: at most 2 * (n + 2) * (L + 2) visits, if the longer bound has n bytes and the longest
-    /// key has L bytes, and none on an empty tree.
+    /// key has L bytes, and at least one, but none on an empty tree.
     pub fn new(
         tree: &'a Tree<K, V, PREFIX_LEN>,
         start: Bound<&[u8]>,
@@ -72,6 +72,7 @@ impl<'a, K: AsBytes, V, const PREFIX_LEN: usize> BoundedIter<'a, K, V, InRange, 
             + opening (longer (slice_bound start.entry) (slice_bound end.entry))
             (longest (bytes K.bytes) tree.now.pairs) }
         ensures grows { visits.old.count ≤ visits.new.count }
+        ensures some_counted { tree.now.pairs ≢ [] → visits.old.count < visits.new.count }
         ensures empty { tree.now.pairs ≡ [] → visits.new.count ≡ visits.old.count }
     {
         let cursor = Cursor::range(tree, start, end, visits);
@@ -86,12 +87,14 @@ impl<'a, K: AsBytes, V, const PREFIX_LEN: usize> BoundedIter<'a, K, V, BelowFron
     /// Returns an iterator over the pairs whose bytes begin with these.
     ///
     /// Cost: at most 2 * (n + 2) * (L + 2) visits, if there are n bytes and the longest key has L
-    /// bytes, and none on an empty tree.
+    /// bytes, and at least one if n is not 0, but none on an empty tree.
     pub fn new(tree: &'a Tree<K, V, PREFIX_LEN>, front: &[u8], visits: &mut Visits) -> Self
         ensures value { result ≡ pairs_of (under (bytes K.bytes) tree.now.pairs front.now) }
         ensures counted { visits.new.count ≤ visits.old.count
             + opening (length front.now) (longest (bytes K.bytes) tree.now.pairs) }
         ensures grows { visits.old.count ≤ visits.new.count }
+        ensures some_counted { front.now ≢ [] → tree.now.pairs ≢ []
+            → visits.old.count < visits.new.count }
         ensures empty { tree.now.pairs ≡ [] → visits.new.count ≡ visits.old.count }
     {
         let cursor = Cursor::prefix(tree, front, visits);

@@ -1,5 +1,5 @@
 //! Cursors over the leaves within two bounds, and over those whose keys begin with some bytes.
-ghost use Rattle.std.specs.Prelude.{◌≡◌, ◌+◌, ◌≤◌, [], length};
+ghost use Rattle.std.specs.Prelude.{◌≡◌, ◌≢◌, ◌+◌, ◌<◌, ◌≤◌, [], length};
 ghost use Rattle.blart_keys.specs.Bounds.{slice_bound, is_up_to_end};
 ghost use Rattle.blart_keys.specs.Content.{between, under};
 ghost use Rattle.art_tree.specs.Leaves.{bytes};
@@ -17,7 +17,7 @@ impl Cursor {
     /// if the bounds are not in order.
     ///
     /// Cost: at most 2 * (n + 2) * (L + 2) visits, if the longer bound has n bytes and the longest
-    /// key has L bytes, and none on an empty tree.
+    /// key has L bytes, and at least one, but none on an empty tree.
     pub fn range<K: AsBytes, V, const PREFIX_LEN: usize>(
         tree: &Tree<K, V, PREFIX_LEN>,
         start: Bound<&[u8]>,
@@ -32,6 +32,7 @@ impl Cursor {
             + opening (longer (slice_bound start.entry) (slice_bound end.entry))
             (longest (bytes K.bytes) tree.now.pairs) }
         ensures grows { visits.old.count ≤ visits.new.count }
+        ensures some_counted { tree.now.pairs ≢ [] → visits.old.count < visits.new.count }
         ensures empty { tree.now.pairs ≡ [] → visits.new.count ≡ visits.old.count }
     {
         tree.law();
@@ -52,7 +53,7 @@ impl Cursor {
     /// Returns a cursor over the leaves whose keys' bytes begin with these.
     ///
     /// Cost: at most 2 * (n + 2) * (L + 2) visits, if there are n bytes and the longest key has L
-    /// bytes, and none on an empty tree.
+    /// bytes, and at least one if n is not 0, but none on an empty tree.
     pub fn prefix<K: AsBytes, V, const PREFIX_LEN: usize>(
         tree: &Tree<K, V, PREFIX_LEN>,
         front: &[u8],
@@ -64,6 +65,8 @@ impl Cursor {
         ensures counted { visits.new.count ≤ visits.old.count
             + opening (length front.now) (longest (bytes K.bytes) tree.now.pairs) }
         ensures grows { visits.old.count ≤ visits.new.count }
+        ensures some_counted { front.now ≢ [] → tree.now.pairs ≢ []
+            → visits.old.count < visits.new.count }
         ensures empty { tree.now.pairs ≡ [] → visits.new.count ≡ visits.old.count }
     {
         tree.law();

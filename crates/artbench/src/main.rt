@@ -1,4 +1,4 @@
-//! Times the map beside the library's `BTreeMap`, on keys that the program makes from a seed.
+//! Times the map beside the toolchain's `BTreeMap`, on keys that the program makes from a seed.
 //!
 //! `artbench KEYS KIND [ROWS]`: the number of keys, their kind (`random`, `urls`, `dense`, `short`,
 //! `random8`, `random16`, `dense8` or `all`), and the calls (`pairs`, `bulk`, `sets`, `mounts` or

@@ -31,7 +31,7 @@ pub(crate) fn write_sheet(
     sheet.ended()?;
     println!(rt; "{name} {keys}")?;
     write_sums(rt, &sheet.rows)?;
-    eprintln!(rt; "{name}, {keys} keys: nanoseconds, and the ratio to BTreeMap")?;
+    eprintln!(rt; "{name}, {keys} keys: nanoseconds, and the ratio to the toolchain's BTreeMap")?;
     write_times(rt, &sheet.rows)
 }
 

@@ -109,28 +109,28 @@ module _ {K V : Type 0} (kb : K → List ℕ) where
   stores_is S q = sym (some-at (bytes kb) S q)
 
   -- a pair that is found at the bytes q has these bytes
-  pub pair_at-bytes : (S : List (K × V)) (q : List ℕ) (x : K × V) → pair_at kb S q ≡ Some x → kb x.0 ≡ q
+  pub pair_at_bytes : (S : List (K × V)) (q : List ℕ) (x : K × V) → pair_at kb S q ≡ Some x → kb x.0 ≡ q
   unfolding pair_at
-  pair_at-bytes S q x e = (at_Some (bytes kb) S q x e).1
+  pair_at_bytes S q x e = (at_Some (bytes kb) S q x e).1
 
   -- the bytes of the pair that is found for a query are a prefix of the query
-  pub pair_at_front-begins : (S : List (K × V)) (q : List ℕ) (x : K × V) → pair_at_front kb S q ≡ Some x → begins (kb x.0) q ≡ true
+  pub pair_at_front_begins : (S : List (K × V)) (q : List ℕ) (x : K × V) → pair_at_front kb S q ≡ Some x → begins (kb x.0) q ≡ true
   unfolding pair_at_front
-  pair_at_front-begins S q x e = (front_of_Some (bytes kb) S q x e).1
+  pair_at_front_begins S q x e = (front_of_Some (bytes kb) S q x e).1
 
   -- if the bytes q are stored, both look-ups find the same pair
-  pub pair_at_front-at : (S : List (K × V)) → IsContent (bytes kb) S → (q : List ℕ) (x : K × V) → pair_at kb S q ≡ Some x → pair_at_front kb S q ≡ Some x
+  pub pair_at_front_at : (S : List (K × V)) → IsContent (bytes kb) S → (q : List ℕ) (x : K × V) → pair_at kb S q ≡ Some x → pair_at_front kb S q ≡ Some x
   unfolding pair_at pair_at_front
-  pair_at_front-at S content q x e = front_of_stored (bytes kb) S content q x e
+  pair_at_front_at S content q x e = front_of_stored (bytes kb) S content q x e
 
   -- each pair of a content is found at its bytes
-  pub pair_at-member : (S : List (K × V)) → IsContent (bytes kb) S → (x : K × V) → Member x S → pair_at kb S (kb x.0) ≡ Some x
+  pub pair_at_member : (S : List (K × V)) → IsContent (bytes kb) S → (x : K × V) → Member x S → pair_at kb S (kb x.0) ≡ Some x
   unfolding pair_at
-  pair_at-member S content x m = at_member (bytes kb) S content (kb x.0) x m refl
+  pair_at_member S content x m = at_member (bytes kb) S content (kb x.0) x m refl
 
   -- so is the pair at an index
   pub stored_at : (S : List (K × V)) → IsContent (bytes kb) S → (i : ℕ) (x : K × V) → slice_get S i ≡ Some x → pair_at kb S (kb x.0) ≡ Some x
-  stored_at S content i x e = pair_at-member S content x (slice_get-member S i x e)
+  stored_at S content i x e = pair_at_member S content x (slice_get-member S i x e)
 
   -- the empty list has nothing
   pub nothing_stored : (S : List (K × V)) → S ≡ [] → HasNothing kb S
@@ -208,7 +208,7 @@ module _ {K V : Type 0} (kb : K → List ℕ) where
   takes_one : (A B S : List (K × V)) (p : K × V) → IsContent (bytes kb) S → S ≡ A ++ p ∷ B → TakesPair kb S p (A ++ B)
   takes_one A B S p content e =
       let cut : without (bytes kb) S (kb p.0) ≡ A ++ B = ap (λ (T : List (K × V)). without (bytes kb) T (kb p.0)) e ∙ without_cut (bytes kb) A B p (kb p.0) (subst (IsContent (bytes kb)) e content) refl in (
-        pair_at-member S content p (subst (Member p) (sym e) (Member-append_right p A (p ∷ B) (inl refl))),
+        pair_at_member S content p (subst (Member p) (sym e) (Member-append_right p A (p ∷ B) (inl refl))),
         subst (λ T. Updates kb S T (kb p.0) None) cut (updates_without S (kb p.0)),
       )
 
@@ -424,7 +424,7 @@ before_agrees {K} {V} kb S q content there = by (pair_at kb S q) refl
   where
     by : (o : Option (K × V)) → pair_at kb S q ≡ o → pair_at_front kb S q ≡ pair_at kb S q
     by None e = absurd (false≢true (ap (λ o. is_some o) (sym e) ∙ there))
-    by (Some x) e = pair_at_front-at kb S content q x e ∙ sym e
+    by (Some x) e = pair_at_front_at kb S content q x e ∙ sym e
 
 -- ---- what a query finds after a pair is removed
 

@@ -133,7 +133,7 @@ impl Debug for ZStr<'_> {
 /// query.set(b"ab")?;
 /// assert_eq!(query.as_bytes(), b"ab\0".as_slice());
 /// ```
-#[derive(Debug, Drop)]
+#[derive(Drop)]
 pub struct ZQuery {
     bytes: Vec<u8>,
 }
@@ -202,5 +202,18 @@ impl AsBytes for ZQuery {
 
     fn value_law(&self) {
         self.bytes.value_law()
+    }
+}
+
+impl Debug for ZQuery {
+    /// Writes the bytes without the zero as text in quotes, as in `ZQuery("ab")`. A byte that is
+    /// not UTF-8 is written as `\xff`. A query with no bytes is written like that of no text.
+    ///
+    /// Cost: one pass over the bytes.
+    fn fmt<W: fmt::Write>(&self, f: &mut fmt::Formatter<W>) -> fmt::Result {
+        let bytes = self.as_bytes();
+        f.debug_tuple("ZQuery")
+            .field(&Quoted(bytes.strip_suffix(b"\0").unwrap_or(bytes)))
+            .finish()
     }
 }

@@ -1,6 +1,6 @@
 -- Lemmas about maps for callers.
 -- look-ups: a stored pair is found, also by what begins with its bytes; a found pair has the bytes
-pub use Rattle.blart_keys.proofs.StoredLemmas.{stores_is, pair_at-bytes, pair_at_front-begins, pair_at_front-at, before_agrees, pair_at-member, stored_at, nothing_stored}
+pub use Rattle.blart_keys.proofs.StoredLemmas.{stores_is, pair_at_bytes, pair_at_front_begins, pair_at_front_at, before_agrees, pair_at_member, stored_at, nothing_stored}
 -- what a list has at some bytes after a change
 pub use Rattle.blart_keys.proofs.StoredLemmas.{updates_put, len_put, before_put, overwrites_over, before_over, updates_without, len_without, takes_first, takes_last, writes_at, writes_before}
 -- what a query finds after a pair is put over the related ones; what overlaps beside a stored key,

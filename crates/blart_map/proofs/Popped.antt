@@ -8,7 +8,7 @@ use Rattle.blart_keys.specs.Stored.{pair_at, pair_at_front}
 use Rattle.blart_keys.specs.Walks.{TakesFirst, TakesLast}
 use Rattle.blart_keys.proofs.PutLemmas.{without_cut}
 use Rattle.blart_keys.proofs.RankLemmas.{Member-append_right}
-use Rattle.blart_keys.proofs.StoredLemmas.{pair_at-member, routes_without}
+use Rattle.blart_keys.proofs.StoredLemmas.{pair_at_member, routes_without}
 
 module _ {K V : Type 0} (kb : K → List ℕ) where
   -- a query finds what it found in S, but it finds nothing if it begins with the bytes of p
@@ -19,7 +19,7 @@ module _ {K V : Type 0} (kb : K → List ℕ) where
   routes_cut : (A B : List (K × V)) (p : K × V) → IsContent (bytes kb) (A ++ p ∷ B) → RoutesBut (A ++ p ∷ B) p (A ++ B)
   routes_cut A B p content r =
       let S : List (K × V) = A ++ p ∷ B in
-      let there : pair_at kb S (kb p.0) ≡ Some p = pair_at-member kb S content p (Member-append_right p A (p ∷ B) (inl refl)) in
+      let there : pair_at kb S (kb p.0) ≡ Some p = pair_at_member kb S content p (Member-append_right p A (p ∷ B) (inl refl)) in
       let gone : pair_at_front kb (without (bytes kb) S (kb p.0)) r ≡ (if begins (kb p.0) r then None else pair_at_front kb S r) = rw (there, and-true) at (routes_without kb S content (kb p.0) r) in
       subst (λ T. pair_at_front kb T r ≡ (if begins (kb p.0) r then None else pair_at_front kb S r)) (without_cut (bytes kb) A B p (kb p.0) content refl) gone
 

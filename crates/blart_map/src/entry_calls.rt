@@ -4,7 +4,6 @@ ghost use Rattle.std.specs.Borrow.{sem};
 ghost use Rattle.std.specs.Fn.{FnOnceReturnsAt};
 ghost use denote.Ref.{Bor};
 ghost use Rattle.blart_keys.specs.Content.{stores, conflict, front_of, IsContent};
-ghost use Rattle.art_tree.specs.Content.{room};
 ghost use Rattle.art_tree.specs.Leaves.{first_number, last_number, Has, AreDistinct, bytes};
 ghost use Rattle.art_tree.specs.Points.{IsGood};
 ghost use Rattle.art_tree.specs.declared.tree.point.Point.TheVariants.{Exact};

@@ -1,5 +1,5 @@
 //! Iterators over pairs, keys and values.
-ghost use Rattle.std.specs.Prelude.{◌≡◌, ◌+◌, ◌≤◌, [], length, map};
+ghost use Rattle.std.specs.Prelude.{◌≡◌, ◌≢◌, ◌+◌, ◌<◌, ◌≤◌, [], length, map};
 ghost use Rattle.blart_keys.specs.Bounds.{bound_bytes, slice_bound, CanRange};
 ghost use Rattle.blart_keys.specs.Content.{between, under};
 ghost use Rattle.blart_keys.specs.Steps.{bytes};
@@ -87,13 +87,16 @@ impl<K: AsBytes, V, const PREFIX_LEN: usize> TreeMap<K, V, PREFIX_LEN> {
     /// Like [`TreeMap::prefix`], and counts the visits.
     ///
     /// Cost: at most 2 * (n + 2) * (L + 2) visits, if there are n bytes and the longest key has L
-    /// bytes, and none on an empty map. Each step is one visit more.
+    /// bytes, and at least one if n is not 0, but none on an empty map. Each step is one visit
+    /// more.
     pub fn prefix_counted(&self, front: &[u8], visits: &mut Visits) -> Prefix<'_, K, V, PREFIX_LEN>
         ensures value { result ≡ under (bytes K.bytes) (pairs self.now) front.now }
         ensures fits { CanCount result }
         ensures counted { visits.new.count ≤ visits.old.count
             + opening (length front.now) (longest (bytes K.bytes) (pairs self.now)) }
         ensures grows { visits.old.count ≤ visits.new.count }
+        ensures some_counted { front.now ≢ [] → pairs self.now ≢ []
+            → visits.old.count < visits.new.count }
         ensures empty { pairs self.now ≡ [] → visits.new.count ≡ visits.old.count }
     {
         self.law();
@@ -130,7 +133,7 @@ impl<K: AsBytes, V, const PREFIX_LEN: usize> TreeMap<K, V, PREFIX_LEN> {
     /// Like [`TreeMap::range`], and counts the visits.
     ///
     /// Cost: at most 2 * (n + 2) * (L + 2) visits, if the longer bound has n bytes and the longest
-    /// key has L bytes, and none on an empty map. Each step is one visit more.
+    /// key has L bytes, and at least one, but none on an empty map. Each step is one visit more.
     pub fn range_counted<Q: AsBytes>(
         &self,
         start: Bound<&Q>,
@@ -147,6 +150,7 @@ impl<K: AsBytes, V, const PREFIX_LEN: usize> TreeMap<K, V, PREFIX_LEN> {
             + opening (longer (bound_bytes Q.bytes start.entry) (bound_bytes Q.bytes end.entry))
             (longest (bytes K.bytes) (pairs self.now)) }
         ensures grows { visits.old.count ≤ visits.new.count }
+        ensures some_counted { pairs self.now ≢ [] → visits.old.count < visits.new.count }
         ensures empty { pairs self.now ≡ [] → visits.new.count ≡ visits.old.count }
     {
         self.law();

@@ -1,5 +1,5 @@
 //! Counts of words, in a map of texts of which one may begin with another.
-ghost use Rattle.std.specs.Prelude.{◌≡◌, ◌<◌, ◌≤◌, ℕ, List, [], ◌∷◌, ◌++◌, length, unwrap_or, Contains, IfOk, OnOk, OnErr, Some, None};
+ghost use Rattle.std.specs.Prelude.{◌≡◌, ◌<◌, ◌≤◌, [], ◌∷◌, ◌++◌, length, unwrap_or, Contains, IfOk, OnOk, OnErr, Some};
 ghost use Rattle.blart.specs.Words.{pairs, value_at, zkey_bytes, zstr_bytes, zquery_room};
 
 use blart::{Map, ZKey, ZKeyError, ZQuery, ZStr, zkey};

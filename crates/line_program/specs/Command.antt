@@ -1,5 +1,5 @@
 -- The commands that a line may be.
-use Rattle.std.specs.Prelude.{ℕ, Bool, ◌==◌, ◌&&◌, nat_le, if◌then◌else◌, List, [], ◌∷◌, length, Option, Some, None, Result, Ok, Err, option_map, bytes_eq, codes}
+use Rattle.std.specs.Prelude.{ℕ, ◌==◌, nat_le, if◌then◌else◌, List, [], ◌∷◌, length, Option, Some, None, Result, Ok, Err, option_map, bytes_eq, codes}
 use Rattle.std.specs.List.{slice_split}
 use Rattle.decimals.specs.Decimal.{read_number}
 use Rattle.hex.specs.Hex.{decode_of}

@@ -8,7 +8,7 @@ use Rattle.blart_keys.specs.Bytes.{begins, related}
 use Rattle.blart_keys.specs.KeyBytes.{vec_bytes}
 use Rattle.blart_keys.specs.Stored.{bytes, pair_at, value_at, has, kept, kept_pair, overlaps, Updates}
 use Rattle.blart_keys.proofs.ContentLemmas.{at_None, conflict_found, conflict_member}
-use Rattle.blart_keys.proofs.StoredLemmas.{is_some-map, pair_at-bytes}
+use Rattle.blart_keys.proofs.StoredLemmas.{is_some-map, pair_at_bytes}
 use Rattle.blart_keys.proofs.RankLemmas.{Member, Ranked}
 use Rattle.blart_map.specs.Content.{pairs}
 use Rattle.prefix_router.specs.Best.{IsBest, is_longer}
@@ -149,7 +149,7 @@ module _ {K V : Type 0} (kb : K → List ℕ) where
     where
       by : (o : Option (K × V)) → pair_at kb S (kb p.0) ≡ o → kb (kept_pair o p).0 ≡ kb p.0
       by None e = refl
-      by (Some x) e = pair_at-bytes kb S (kb p.0) x e
+      by (Some x) e = pair_at_bytes kb S (kb p.0) x e
 
   module _ (S S' : List (K × V)) (ranked : Ranked (Less kb) S) (ranked' : Ranked (Less kb) S') (q : List ℕ) where
     -- the number of mounts after a mount, by what was mounted

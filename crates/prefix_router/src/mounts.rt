@@ -12,7 +12,8 @@ use blart_map::{DEFAULT_PREFIX_LEN, Prefix, TreeMap, TryInsertError, Visits};
 use std::alloc::{AllocError, Global};
 use std::marker::Model;
 
-/// Mounts, each a path with its target. No mounted path is a prefix of another.
+/// Mounts, each a path with its target. No mounted path is a prefix of another. For paths that nest
+/// see [`Routes`](crate::Routes).
 ///
 /// ```
 /// let mut mounts = Mounts::new(alloc);

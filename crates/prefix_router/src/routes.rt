@@ -24,7 +24,7 @@ use std::ops::Bound;
 ///
 /// The mounts are in some tables, in each of which no path is a prefix of another. A new table is
 /// made only if each has a mount whose path is a prefix of the new path or begins with it. So if no
-/// two mounts nest, there is one table.
+/// mount was removed and no two mounts nest, there is at most one table.
 ///
 /// ```
 /// let mut routes = Routes::new(alloc);
@@ -44,7 +44,7 @@ pub struct Routes<V> {
 
 impl<V> Model for Routes<V> {
     ghost use Rattle.std.specs.Prelude.{◌≡◌, length};
-    ghost use Rattle.prefix_router.specs.Tables.{Nested, all_mounts, mounts_of, AreCounted};
+    ghost use Rattle.prefix_router.specs.Tables.{Nested, mounts_of, AreCounted};
 
     ghost Value = { Nested V };
 

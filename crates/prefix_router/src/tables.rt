@@ -1,5 +1,5 @@
 //! Some tables of mounts. In each of them no path is a prefix of another.
-ghost use Rattle.std.specs.Prelude.{◌≡◌, ◌≢◌, ◌+◌, ◌*◌, ◌<◌, ◌≤◌, ◌&&◌, ℕ, List, true, false, not, length, leb, max, is_some, option_copied, position, IfOk, OnOk, OnErr, IfSome, Some, None};
+ghost use Rattle.std.specs.Prelude.{◌≡◌, ◌≢◌, ◌+◌, ◌*◌, ◌<◌, ◌≤◌, ◌&&◌, ℕ, List, true, false, not, length, leb, max, is_some, option_copied, position, OnOk, OnErr, IfSome, Some, None};
 ghost use Rattle.blart_keys.specs.Bounds.{is_from_start, slice_bound};
 ghost use Rattle.blart_keys.specs.Bytes.{begins, less};
 ghost use Rattle.blart_keys.specs.KeyBytes.{vec_bytes};

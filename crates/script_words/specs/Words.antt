@@ -1,5 +1,5 @@
 -- What the words of a line mean.
-use Rattle.std.specs.Prelude.{ℕ, Bool, ◌==◌, ◌&&◌, ◌||◌, nat_le, if◌then◌else◌, List, [], length, Option, Some, None, Result, Ok, Err, bytes_eq, codes}
+use Rattle.std.specs.Prelude.{ℕ, Bool, ◌==◌, ◌||◌, if◌then◌else◌, List, [], length, Option, Some, None, Result, Ok, Err, bytes_eq, codes}
 use Rattle.hex.specs.Hex.{decode_of}
 
 -- the value of an `Ok`

@@ -1,5 +1,5 @@
 //! The words of a line, and the values that they stand for.
-ghost use Rattle.std.specs.Prelude.{◌≡◌, true, IfOk, Some, Contains};
+ghost use Rattle.std.specs.Prelude.{◌≡◌, IfOk, Some, Contains};
 ghost use Rattle.std.specs.List.{list_all};
 ghost use Rattle.script_words.specs.Words.{read_bytes, is_step, is_decision};
 

@@ -8,7 +8,7 @@ use Rattle.blart_keys.proofs.ContentLemmas.{at_Some, at_member}
 use Rattle.blart_keys.proofs.Mapped.{content_map, list_any-map, Member-map}
 use Rattle.blart_keys.proofs.Options.{some_of}
 use Rattle.blart_keys.proofs.RankLemmas.{Member, Contains-from_Member, Member-from_Contains}
-use Rattle.blart_keys.proofs.StoredLemmas.{writes_at, updates_put, len_put, stores_is, pair_at-member, updates_without, len_without}
+use Rattle.blart_keys.proofs.StoredLemmas.{writes_at, updates_put, len_put, stores_is, pair_at_member, updates_without, len_without}
 use Rattle.art_tree.specs.Leaves.{Numbered, leaf_in, keys_in, Has, AreDistinct, with_value, without_number, bytes}
 use Rattle.art_tree.specs.Pairs.{pairs_of}
 use Rattle.art_tree.proofs.CallerLemmas.{Member-from_leaf_in}
@@ -33,8 +33,8 @@ module _ {K V : Type 0} (kb : K → List ℕ) where
     content = content';
     there = Contains-from_Member x S' (at_Some (pair_bytes kb) S' (kb x.0) x up.0).0;
     others = λ y off. (
-      λ m. Contains-from_Member y S (at_Some (pair_bytes kb) S (kb y.0) y (sym (up.1 (kb y.0) off) ∙ pair_at-member kb S' content' y (Member-from_Contains y S' m))).0,
-      λ m. Contains-from_Member y S' (at_Some (pair_bytes kb) S' (kb y.0) y (up.1 (kb y.0) off ∙ pair_at-member kb S content y (Member-from_Contains y S m))).0,
+      λ m. Contains-from_Member y S (at_Some (pair_bytes kb) S (kb y.0) y (sym (up.1 (kb y.0) off) ∙ pair_at_member kb S' content' y (Member-from_Contains y S' m))).0,
+      λ m. Contains-from_Member y S' (at_Some (pair_bytes kb) S' (kb y.0) y (up.1 (kb y.0) off ∙ pair_at_member kb S content y (Member-from_Contains y S m))).0,
     );
   }
 
@@ -51,7 +51,7 @@ module _ {K V : Type 0} (kb : K → List ℕ) where
     written_there i x l w = written_found kb ps content distinct (kb x.0) i (sym (ap (option_map (λ (p : Numbered K V). p.0)) (found_at i x l))) w
 
     pub pair_there : (i : ℕ) (x : K × V) → leaf_in ps i ≡ Some x → pair_at kb (pairs_of ps) (kb x.0) ≡ Some x
-    pair_there i x l = pair_at-member kb (pairs_of ps) whole x (member ps (Member-from_leaf_in ps i x l))
+    pair_there i x l = pair_at_member kb (pairs_of ps) whole x (member ps (Member-from_leaf_in ps i x l))
       where
         member : (qs : List (Numbered K V)) → Member (i, x) qs → Member x (pairs_of qs)
         member qs m = Member-map (λ (p : Numbered K V). p.1) (i, x) qs m

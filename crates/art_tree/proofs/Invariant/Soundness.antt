@@ -1,5 +1,5 @@
 -- When a tree's records are sound, and what follows for its pairs.
-use Rattle.std.proofs.Common.{◌≡◌, ℕ, ◌≤◌, List, [], ◌∷◌, refl, ap, sym, subst, ◌∙◌, Option, Some, None, eq-eqb, length, arith, inl, inr}
+use Rattle.std.proofs.Common.{◌≡◌, ◌≢◌, ℕ, ◌≤◌, List, [], ◌∷◌, refl, ap, sym, subst, ◌∙◌, Option, Some, None, eq-eqb, length, arith, inl, inr}
 use Rattle.blart_keys.specs.Content.{IsContent}
 use Rattle.blart_keys.proofs.ContentLemmas.{empty_content}
 use Rattle.blart_keys.proofs.RankLemmas.{Member}
@@ -7,9 +7,11 @@ use Rattle.art_tree.specs.Begins.{Bytes}
 use Rattle.art_tree.specs.Leaves.{Numbered, Leaves, keys_in, bytes}
 use Rattle.art_tree.specs.Longest.{longest}
 use Rattle.art_kinds.specs.Nodes.{Nodes, Node, at, SameNodes}
-use Rattle.art_tree.specs.Invariant.Shape.{Shape}
+use Rattle.art_tree.specs.Invariant.Shape.{Shape, Covers, RootFits}
 use Rattle.art_tree.specs.Invariant.Sound.{IsSound}
 use Rattle.art_kinds.specs.declared.records.ids.Child.{Child}
+use Rattle.art_kinds.specs.declared.records.ids.Child.TheVariants.{Leaf, Inner}
+use Rattle.blart_keys.proofs.Options.{some_of}
 use Rattle.art_tree.proofs.NumberedPairs.Keys.{member_of_key}
 use Rattle.art_tree.proofs.Invariant.SameShapes.{renoded, rekeyed}
 use Rattle.art_tree.proofs.Invariant.SmallShapes.{shape_empty}
@@ -41,6 +43,17 @@ module _ {K V : Type 0} (key_bytes : K → List ℕ) where
   -- if there is no root, there are no pairs
   pub rootless : {P : ℕ} → (S : List (Numbered K V)) (nodes : ℕ → Option Node) (root : Option Child) → Shape P (keys_in key_bytes S) nodes root → root ≡ None → S ≡ []
   rootless {P} S nodes root s e = no_pairs S (λ j. (subst (λ (r : Option Child). Shape P (keys_in key_bytes S) nodes r) e s).top j)
+
+  -- if there is a root, there are pairs
+  pub rooted_pairs : {P : ℕ} → (S : List (Numbered K V)) (nodes : ℕ → Option Node) (root : Option Child) (c : Child) → Shape P (keys_in key_bytes S) nodes root → root ≡ Some c → S ≢ []
+  rooted_pairs {P} S nodes root c s e none = below c (subst (λ (r : Option Child). RootFits (keys_in key_bytes S) nodes s.front_of r) e s.top)
+    where
+      no_key : (i : ℕ) (k : Bytes) → keys_in key_bytes S i ≡ Some k → ⊥
+      no_key i k is = (let never : None ≡ Some k = subst (λ (T : List (Numbered K V)). keys_in key_bytes T i ≡ Some k) none is in absurd cc)
+
+      below : (c : Child) → Covers (keys_in key_bytes S) nodes s.front_of [] c → ⊥
+      below (Leaf i) h = no_key i h.key h.is
+      below (Inner n) h = (let x = some_of (nodes n) h.live in let p = (s.node n x.0 x.1).parts in no_key p.i p.k p.k_is)
 
   -- no key is longer than the longest one
   pub within_longest : (S : List (Numbered K V)) (i : ℕ) (k : Bytes) → keys_in key_bytes S i ≡ Some k → length k ≤ longest (bytes key_bytes) S

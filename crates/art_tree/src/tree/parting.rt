@@ -1,5 +1,5 @@
 //! Where a query and the stored keys part.
-ghost use Rattle.std.specs.Prelude.{◌≡◌, ◌+◌, ◌≤◌, ℕ, length, Option, Some};
+ghost use Rattle.std.specs.Prelude.{◌≡◌, ◌+◌, ◌<◌, ◌≤◌, ℕ, length, Option, Some};
 ghost use Rattle.art_tree.specs.Calls.Descents.{IsNearest};
 ghost use Rattle.art_tree.specs.Calls.Partings.{IsParting, LeavesAt, LeavesAtNode, IsEdgeBeside, IsChildBeside};
 ghost use Rattle.art_tree.specs.Begins.{Bytes};
@@ -56,7 +56,7 @@ pub(crate) fn nearest_leaf<'a, K: AsBytes, V, const P: usize>(
         result.2 }
     ensures counted { visits.new.count
         ≤ visits.old.count + longest (bytes K.bytes) leaves.now.pairs + 1 }
-    ensures grows { visits.old.count ≤ visits.new.count }
+    ensures grows { visits.old.count < visits.new.count }
 {
     let id = find_nearest(nodes, root, query, visits);
     let (key, _) = leaves.read(id, visits);
@@ -77,7 +77,7 @@ pub(crate) fn parting_of<K: AsBytes, V, const P: usize>(
     ensures parts { IsParting P (keys_in K.bytes leaves.now.pairs) (at nodes.now) result query.now }
     ensures counted { visits.new.count
         ≤ visits.old.count + longest (bytes K.bytes) leaves.now.pairs + length query.now + 2 }
-    ensures grows { visits.old.count ≤ visits.new.count }
+    ensures grows { visits.old.count < visits.new.count }
 {
     let (nearest, key, depth) = nearest_leaf(leaves, nodes, root, query, visits);
     if depth == key.len() {

@@ -1,5 +1,6 @@
 //! The first and the last pair within a bound, and of those with a prefix.
-ghost use Rattle.std.specs.Prelude.{◌≡◌, ◌+◌, ◌*◌, ◌≤◌, [], length, option_map, Some, IfSome};
+ghost use Rattle.std.specs.Prelude.{◌≡◌, ◌≢◌, ◌+◌, ◌*◌, ◌<◌, ◌≤◌, [], length, option_map, Some, None, IfSome};
+ghost use Rattle.std.specs.declared.ops.Bound.TheVariants.{Unbounded};
 ghost use Rattle.blart_keys.specs.Bounds.{bound_bytes};
 ghost use Rattle.blart_keys.specs.Content.{under};
 ghost use Rattle.art_tree.specs.Leaves.{Has, keys_in, bytes};
@@ -25,7 +26,8 @@ impl<K: AsBytes, V, const PREFIX_LEN: usize> Tree<K, V, PREFIX_LEN> {
     /// there is no such leaf.
     ///
     /// Cost: at most (n + 2) * (L + 1) visits, if the bound has n bytes (0 if it is unbounded) and
-    /// the longest key has L bytes, and none on an empty tree.
+    /// the longest key has L bytes, and none on an empty tree. It makes at least one visit if the
+    /// bound has bytes, or if it returns `None`, and the tree is not empty.
     pub fn seek(&self, bound: Bound<&[u8]>, is_start: bool, visits: &mut Visits) -> Option<LeafId>
         ensures found { result
             ≡ number_within (bytes K.bytes) self.now.pairs
@@ -34,6 +36,10 @@ impl<K: AsBytes, V, const PREFIX_LEN: usize> Tree<K, V, PREFIX_LEN> {
             ≤ visits.old.count + (bound_len (bound_bytes (λ b. b) bound.entry) + 2)
             * (longest (bytes K.bytes) self.now.pairs + 1) }
         ensures grows { visits.old.count ≤ visits.new.count }
+        ensures some_counted { bound_bytes (λ b. b) bound.entry ≢ Unbounded
+            → self.now.pairs ≢ [] → visits.old.count < visits.new.count }
+        ensures none_counted { result ≡ None
+            → self.now.pairs ≢ [] → visits.old.count < visits.new.count }
         ensures empty { self.now.pairs ≡ [] → visits.new.count ≡ visits.old.count }
     {
         self.law();
@@ -60,13 +66,16 @@ impl<K: AsBytes, V, const PREFIX_LEN: usize> Tree<K, V, PREFIX_LEN> {
     /// none.
     ///
     /// Cost: at most (n + 3) * (L + 1) - 2 visits, if there are n bytes and the longest key has L
-    /// bytes, and none on an empty tree.
+    /// bytes, and none on an empty tree. It makes at least one visit if there are bytes and the
+    /// tree is not empty.
     pub fn span(&self, front: &[u8], visits: &mut Visits) -> Option<(LeafId, LeafId)>
         ensures found { result ≡ ends (under (bytes K.bytes) self.now.pairs front.now) }
         ensures counted { visits.new.count + 2
             ≤ visits.old.count + (length front.now + 3)
             * (longest (bytes K.bytes) self.now.pairs + 1) }
         ensures grows { visits.old.count ≤ visits.new.count }
+        ensures some_counted { front.now ≢ [] → self.now.pairs ≢ []
+            → visits.old.count < visits.new.count }
         ensures empty { self.now.pairs ≡ [] → visits.new.count ≡ visits.old.count }
     {
         if front.is_empty() {
@@ -115,6 +124,7 @@ impl<K: AsBytes, V, const PREFIX_LEN: usize> Tree<K, V, PREFIX_LEN> {
             ≤ visits.old.count + (length query.now + 2)
             * (longest (bytes K.bytes) self.now.pairs + 1) }
         ensures grows { visits.old.count ≤ visits.new.count }
+        ensures some_counted { self.now.pairs ≢ [] → visits.old.count < visits.new.count }
         ensures empty { self.now.pairs ≡ [] → visits.new.count ≡ visits.old.count }
     {
         match self.root {
@@ -138,7 +148,7 @@ fn place_below<K: AsBytes, V, const P: usize>(
     ensures counted { visits.new.count
         ≤ visits.old.count + (length query.now + 2)
         * (longest (bytes K.bytes) leaves.now.pairs + 1) }
-    ensures grows { visits.old.count ≤ visits.new.count }
+    ensures grows { visits.old.count < visits.new.count }
 {
     leaves.law();
     match parting_of(leaves, nodes, root, query, visits) {
@@ -172,7 +182,7 @@ pub(crate) fn branch_below<K: AsBytes, V, const P: usize>(
         (Some root.now) s.front_of front.now) }
     ensures counted { visits.new.count
         ≤ visits.old.count + 3 * longest (bytes K.bytes) leaves.now.pairs + 2 }
-    ensures grows { visits.old.count ≤ visits.new.count }
+    ensures grows { visits.old.count < visits.new.count }
 {
     leaves.law();
     let (_, key, depth) = nearest_leaf(leaves, nodes, root, front, visits);

@@ -1,5 +1,5 @@
 //! Removes the pairs that a closure selects, one by one.
-ghost use Rattle.std.specs.Prelude.{◌≡◌, ◌+◌, ◌≤◌, ◌&&◌, [], not, filter, Bool, length, true, None};
+ghost use Rattle.std.specs.Prelude.{◌≡◌, ◌≢◌, ◌+◌, ◌<◌, ◌≤◌, ◌&&◌, [], not, filter, Bool, length, true, None};
 ghost use Rattle.std.specs.Iterator.{at_most};
 ghost use Rattle.blart_keys.specs.Bounds.{bound_bytes, is_from_start, is_up_to_end, CanRange};
 ghost use Rattle.blart_keys.specs.Content.{between};
@@ -83,7 +83,8 @@ impl<K: AsBytes, V, const PREFIX_LEN: usize> TreeMap<K, V, PREFIX_LEN> {
     /// Like [`TreeMap::extract_if`], and counts the visits of the opening.
     ///
     /// Cost: at most 2 * (n + 2) * (L + 2) visits, if the longer bound has n bytes and the longest
-    /// key has L bytes, and none on an empty map. The reads of a step are not counted.
+    /// key has L bytes, and at least one, but none on an empty map. The reads of a step are not
+    /// counted.
     pub fn extract_if_counted<Q: AsBytes, F: FnMut(&K, &mut V) -> bool>(
         &mut self,
         start: Bound<&Q>,
@@ -110,6 +111,7 @@ impl<K: AsBytes, V, const PREFIX_LEN: usize> TreeMap<K, V, PREFIX_LEN> {
             + opening (longer (bound_bytes Q.bytes start.entry) (bound_bytes Q.bytes end.entry))
             (longest (pair_bytes K.bytes) (pairs self.old)) }
         ensures grows { visits.old.count ≤ visits.new.count }
+        ensures some_counted { pairs self.old ≢ [] → visits.old.count < visits.new.count }
         ensures empty { pairs self.old ≡ [] → visits.new.count ≡ visits.old.count }
     {
         self.numbers_law();

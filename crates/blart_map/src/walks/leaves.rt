@@ -1,6 +1,6 @@
 //! The leaves of a map by their ids, for its walks, and for a layer above that removes pairs in a
 //! walk.
-ghost use Rattle.std.specs.Prelude.{◌≡◌, ◌+◌, ◌≤◌, [], option_map, is_some, IfSome, Some, if◌then◌else◌};
+ghost use Rattle.std.specs.Prelude.{◌≡◌, ◌≢◌, ◌+◌, ◌<◌, ◌≤◌, [], option_map, is_some, IfSome, Some, if◌then◌else◌};
 ghost use Rattle.std.specs.Borrow.{sem};
 ghost use Rattle.blart_keys.specs.Bounds.{bound_bytes, CanRange};
 ghost use Rattle.blart_keys.specs.Content.{between, without};
@@ -50,7 +50,8 @@ impl<K: AsBytes, V, const PREFIX_LEN: usize> TreeMap<K, V, PREFIX_LEN> {
     /// Like [`TreeMap::cursor`], and counts the visits.
     ///
     /// Cost: at most 2 * (n + 2) * (L + 2) visits, if the longer bound has n bytes and the longest
-    /// key L bytes, and none on an empty map. Each step that returns a leaf is one more.
+    /// key L bytes, and at least one, but none on an empty map. Each step that returns a leaf is
+    /// one more.
     ///
     /// ```
     /// let mut visits = Visits::new();
@@ -77,6 +78,7 @@ impl<K: AsBytes, V, const PREFIX_LEN: usize> TreeMap<K, V, PREFIX_LEN> {
             + opening (longer (bound_bytes Q.bytes start.entry) (bound_bytes Q.bytes end.entry))
             (longest (bytes K.bytes) (pairs self.now)) }
         ensures grows { visits.old.count ≤ visits.new.count }
+        ensures some_counted { pairs self.now ≢ [] → visits.old.count < visits.new.count }
         ensures empty { pairs self.now ≡ [] → visits.new.count ≡ visits.old.count }
     {
         Cursor::range(&self.tree, as_bytes(start), as_bytes(end), visits)

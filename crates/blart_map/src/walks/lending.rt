@@ -1,5 +1,5 @@
 //! Walks over mutable references to values.
-ghost use Rattle.std.specs.Prelude.{◌≡◌, ◌+◌, ◌≤◌, ◌&&◌, [], length, not, filter, Bool, None};
+ghost use Rattle.std.specs.Prelude.{◌≡◌, ◌≢◌, ◌+◌, ◌<◌, ◌≤◌, ◌&&◌, [], length, not, filter, Bool, None};
 ghost use Rattle.blart_keys.specs.Bounds.{bound_bytes, is_from_start, is_up_to_end, CanRange};
 ghost use Rattle.blart_keys.specs.Bytes.{begins};
 ghost use Rattle.blart_keys.specs.Content.{between, under};
@@ -102,7 +102,8 @@ impl<K: AsBytes, V, const PREFIX_LEN: usize> TreeMap<K, V, PREFIX_LEN> {
     /// Like [`TreeMap::prefix_mut`], and counts the visits of the opening.
     ///
     /// Cost: at most 2 * (n + 2) * (L + 2) visits, if there are n bytes and the longest key has L
-    /// bytes, and none on an empty map. Each step is one visit more, which is not counted.
+    /// bytes, and at least one if n is not 0, but none on an empty map. Each step is one visit
+    /// more, which is not counted.
     #[tactic(auto, using(crate::proofs::Passed::Opening::opens))]
     pub fn prefix_mut_counted(
         &mut self,
@@ -119,6 +120,8 @@ impl<K: AsBytes, V, const PREFIX_LEN: usize> TreeMap<K, V, PREFIX_LEN> {
             + opening (length front.now)
             (longest (pair_bytes K.bytes) (pairs self.old)) }
         ensures grows { visits.old.count ≤ visits.new.count }
+        ensures some_counted { front.now ≢ [] → pairs self.old ≢ []
+            → visits.old.count < visits.new.count }
         ensures empty { pairs self.old ≡ [] → visits.new.count ≡ visits.old.count }
     {
         self.numbers_law();
@@ -161,8 +164,8 @@ impl<K: AsBytes, V, const PREFIX_LEN: usize> TreeMap<K, V, PREFIX_LEN> {
     /// Like [`TreeMap::range_mut`], and counts the visits of the opening.
     ///
     /// Cost: at most 2 * (n + 2) * (L + 2) visits, if the longer bound has n bytes and the longest
-    /// key has L bytes, and none on an empty map. Each step is one visit more, which is not
-    /// counted.
+    /// key has L bytes, and at least one, but none on an empty map. Each step is one visit more,
+    /// which is not counted.
     #[tactic(auto, using(crate::proofs::Passed::Opening::opens))]
     pub fn range_mut_counted<Q: AsBytes>(
         &mut self,
@@ -184,6 +187,7 @@ impl<K: AsBytes, V, const PREFIX_LEN: usize> TreeMap<K, V, PREFIX_LEN> {
             + opening (longer (bound_bytes Q.bytes start.entry) (bound_bytes Q.bytes end.entry))
             (longest (pair_bytes K.bytes) (pairs self.old)) }
         ensures grows { visits.old.count ≤ visits.new.count }
+        ensures some_counted { pairs self.old ≢ [] → visits.old.count < visits.new.count }
         ensures empty { pairs self.old ≡ [] → visits.new.count ≡ visits.old.count }
     {
         self.numbers_law();
@@ -234,8 +238,8 @@ impl<K: AsBytes, V, const PREFIX_LEN: usize> TreeMap<K, V, PREFIX_LEN> {
     /// Like [`TreeMap::take_walk`], and counts the visits of the opening.
     ///
     /// Cost: at most 2 * (n + 2) * (L + 2) visits, if the longer bound has n bytes and the longest
-    /// key has L bytes, and none on an empty map. Each step is one visit more, which is not
-    /// counted.
+    /// key has L bytes, and at least one, but none on an empty map. Each step is one visit more,
+    /// which is not counted.
     #[tactic(auto, using(crate::proofs::Passed::Opening::opens))]
     pub fn take_walk_counted<Q: AsBytes>(
         &mut self,
@@ -262,6 +266,7 @@ impl<K: AsBytes, V, const PREFIX_LEN: usize> TreeMap<K, V, PREFIX_LEN> {
             + opening (longer (bound_bytes Q.bytes start.entry) (bound_bytes Q.bytes end.entry))
             (longest (pair_bytes K.bytes) (pairs self.old)) }
         ensures grows { visits.old.count ≤ visits.new.count }
+        ensures some_counted { pairs self.old ≢ [] → visits.old.count < visits.new.count }
         ensures empty { pairs self.old ≡ [] → visits.new.count ≡ visits.old.count }
     {
         self.numbers_law();

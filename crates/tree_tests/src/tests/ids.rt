@@ -1,6 +1,5 @@
 //! The ids of leaves: each remains valid while its leaf does, and is used again after that.
 ghost use Rattle.std.specs.Prelude.{◌<◌};
-ghost use Rattle.std.specs.Vec.{vec_len};
 
 use super::{add, memory};
 use art_tree::{LeafId, Tree, Visits};

@@ -350,6 +350,10 @@ fn texts_of_zkeys(rt: HostRuntime) {
     );
     assert_shown(&rt, &zkey!("ab"), "ab", "ZStr(\"ab\")");
     assert_shown(&rt, &zkey!(""), "", "ZStr(\"\")");
+    let mut query = ZQuery::new(rt.alloc());
+    assert_debug(&rt, &query, "ZQuery(\"\")");
+    query.set(b"a\xff").expect(&rt, "a text");
+    assert_debug(&rt, &query, "ZQuery(\"a\\xff\")");
     let text = format!(in rt.alloc(); "{:>5}|", zkey!("ab")).expect(&rt, "memory");
     let is_padded = text.as_str() == "   ab|";
     drop(text);

@@ -4,6 +4,7 @@ use Rattle.blart_keys.specs.Bounds.{bound_bytes}
 use Rattle.art_tree.specs.Leaves.{Numbered, bytes}
 use Rattle.art_tree.specs.Seeks.{number_within}
 use Rattle.art_tree.proofs.NumberedPairs.Bounds.{number_within_all_start, number_within_all_end, number_within_at, number_within_after, number_within_before, number_within_included, number_within_excluded}
+use Rattle.art_rows.proofs.CallerLemmas.{no_last}
 use Rattle.art_tree.proofs.tree.Tree.seek.Goals as goal
 
 -- the number within an equal bound on an equal side
@@ -51,3 +52,6 @@ returns-else-is_start-2-clause-found g c =
     let h = number_within_before g.K.AsBytes.bytes c.args.self.now.pairs c.law.ensures.content c.law.ensures.distinct in
     let found = h c.in-Excluded.query.now c.in-Ok-find_place.id c.in-Ok-find_place.ensures.stands ∙ sym c.prev_of.ensures in
     told g.K.AsBytes.bytes c.args.self.now.pairs (ap (bound_bytes (λ (b : List ℕ). b)) c.in-Excluded.is) c.if-is_start-2.false found
+
+pub returns-else-is_start-clause-none_counted : goal.returns-else-is_start-clause-none_counted
+returns-else-is_start-clause-none_counted g c = λ none some. absurd (some (no_last c.args.self.now.pairs (sym c.last.ensures ∙ none)))

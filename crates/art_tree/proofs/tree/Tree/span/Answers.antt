@@ -24,3 +24,6 @@ returns-then-is_empty-clause-found g c =
     let S = c.args.self.now.pairs in
     let none : c.args.front.now ≡ [] = nil_from_length c.args.front.now (eqb-true (length c.args.front.now) 0 (sym c.if-is_empty.ensures)) in
     c.ends.ensures ∙ sym (ap (λ T. ends T) (under_none g.K.AsBytes.bytes S c.args.front.now none))
+
+pub returns-in-None-clause-some_counted : goal.returns-in-None-clause-some_counted
+returns-in-None-clause-some_counted g c = λ bytes some. absurd (some (ap (λ t. t.pairs) (sym c.self.view_is) ∙ rootless g.K.AsBytes.bytes c.self.inside.leaves.pairs (at c.self.inside.nodes) c.self.inside.root c.self.invariant.shape c.in-None.is))

@@ -29,3 +29,7 @@ returns-clause-counted g c =
 pub returns-clause-empty : goal.returns-clause-empty
 unfolding pairs
 returns-clause-empty g c = λ e. c.range.ensures.empty (no_pairs c.self.inside.tree.pairs (ap pairs_of c.self.view_is ∙ e))
+
+pub returns-clause-some_counted : goal.returns-clause-some_counted
+unfolding pairs
+returns-clause-some_counted g c = λ some. c.range.ensures.some_counted (λ e. some (ap pairs_of (sym c.self.view_is ∙ e)))

@@ -29,3 +29,7 @@ unfolding pairs
 returns-clause-fits g c =
     let kb = g.K.AsBytes.bytes in
     subst CanCount (sym (returns-clause-value g c)) (can_count_filter (λ pair. begins c.args.front.now (kb pair.0)) (pairs_of c.args.self.now) c.law.ensures.fits)
+
+pub returns-clause-some_counted : goal.returns-clause-some_counted
+unfolding pairs
+returns-clause-some_counted g c = λ bytes some. c.new.ensures.some_counted bytes (λ e. some (ap pairs_of (sym c.self.view_is ∙ e)))

@@ -1,7 +1,7 @@
 use Rattle.std.proofs.Common.{sym, ◌∙◌, Some, None, ap}
 use Rattle.blart_keys.specs.Bytes.{begins}
 use Rattle.blart_keys.specs.Stored.{pair_at_front}
-use Rattle.blart_keys.proofs.StoredLemmas.{pair_at_front-begins}
+use Rattle.blart_keys.proofs.StoredLemmas.{pair_at_front_begins}
 use Rattle.art_tree.specs.Pairs.{pairs_of}
 use Rattle.blart_map.specs.Content.{pairs}
 use Rattle.art_insert.proofs.Numbers.{found_pairs, no_pairs}
@@ -44,4 +44,4 @@ pub returns-in-Some-clause-found : goal.returns-in-Some-clause-found
 unfolding pairs
 returns-in-Some-clause-found g c =
     let found = c.in-Some.found in
-    pair_at_front-begins g.K.AsBytes.bytes (pairs_of c.args.self.now) (g.Q.AsBytes.bytes c.args.query.now) (found.1.now, found.2.now) (sym (returns-in-Some-clause-pair g c))
+    pair_at_front_begins g.K.AsBytes.bytes (pairs_of c.args.self.now) (g.Q.AsBytes.bytes c.args.query.now) (found.1.now, found.2.now) (sym (returns-in-Some-clause-pair g c))

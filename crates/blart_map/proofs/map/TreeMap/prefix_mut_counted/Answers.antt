@@ -1,4 +1,4 @@
-use Rattle.std.proofs.Common.{◌∙◌, ap}
+use Rattle.std.proofs.Common.{◌∙◌, ap, sym}
 use Rattle.blart_keys.specs.Bytes.{begins}
 use Rattle.art_tree.specs.Pairs.{pairs_of}
 use Rattle.art_insert.proofs.Numbers.{no_pairs}
@@ -21,3 +21,7 @@ returns-clause-counted g c =
 pub returns-clause-empty : goal.returns-clause-empty
 unfolding pairs
 returns-clause-empty g c = λ e. c.prefix-below.ensures.empty (no_pairs c.self.inside.tree.pairs (ap pairs_of c.self.view_is ∙ e))
+
+pub returns-clause-some_counted : goal.returns-clause-some_counted
+unfolding pairs
+returns-clause-some_counted g c = λ bytes some. c.prefix-below.ensures.some_counted bytes (λ e. some (ap pairs_of (sym c.self.view_is ∙ e)))

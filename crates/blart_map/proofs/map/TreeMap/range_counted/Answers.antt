@@ -49,3 +49,7 @@ returns-clause-fits g c =
     let start = bound_bytes g.Q.AsBytes.bytes c.args.start in
     let end = bound_bytes g.Q.AsBytes.bytes c.args.end in
     subst CanCount (sym (returns-clause-value g c)) (can_count_filter (λ pair. is_from_start start (kb pair.0) && is_up_to_end end (kb pair.0)) (pairs_of c.args.self.now) c.law.ensures.fits)
+
+pub returns-clause-some_counted : goal.returns-clause-some_counted
+unfolding pairs
+returns-clause-some_counted g c = λ some. c.new.ensures.some_counted (λ e. some (ap pairs_of (sym c.self.view_is ∙ e)))

@@ -1,7 +1,7 @@
 use Rattle.std.proofs.Common.{◌≡◌, bytes_eq, sym, refl, ap, ◌∙◌, subst, ℕ, List, Option, Some, IfSome, None, ◌+◌, ◌&&◌, length, is_some, if◌then◌else◌}
 use Rattle.blart_keys.specs.Bytes.{begins}
 use Rattle.blart_keys.specs.Stored.{pair_at, pair_at_front, Updates, has}
-use Rattle.blart_keys.proofs.StoredLemmas.{updates_without, len_without, pair_at-bytes, routes_without}
+use Rattle.blart_keys.proofs.StoredLemmas.{updates_without, len_without, pair_at_bytes, routes_without}
 use Rattle.art_tree.specs.Pairs.{pairs_of}
 use Rattle.blart_map.specs.Content.{pairs}
 use Rattle.art_insert.proofs.Numbers.{whole_pairs, found_pairs, without_pairs}
@@ -54,7 +54,7 @@ returns-clause-len g c =
 -- a pair that is found at the bytes q has these bytes
 found_bytes : {K V : Type 0} (kb : K → List ℕ) (S : List (K × V)) (q : List ℕ) (o : Option (K × V)) → pair_at kb S q ≡ o → IfSome o (λ (pair : K × V). kb pair.0 ≡ q)
 found_bytes kb S q None e = tt
-found_bytes kb S q (Some x) e = pair_at-bytes kb S q x e
+found_bytes kb S q (Some x) e = pair_at_bytes kb S q x e
 
 pub returns-clause-found : goal.returns-clause-found
 unfolding pairs
