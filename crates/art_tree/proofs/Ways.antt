@@ -1,13 +1,13 @@
+pub mod Beside
 pub mod Depths
 pub mod Ends
-pub mod Mismatches
-pub mod Nearest
-pub mod Partings
 pub mod Points
+pub mod Related
 pub mod Roots
 pub mod Shown
 pub mod Stops
 pub mod ToFront
 pub mod ToQuery
 pub mod ToSpot
+pub mod Tops
 pub mod WaysDown

@@ -1,6 +1,5 @@
 pub mod Building
 pub mod Descents
-pub mod Partings
 pub mod Placing
 pub mod Pruning
 pub mod Removing

@@ -3,8 +3,8 @@ use Rattle.std.specs.Prelude.{◌≡◌, ℕ, List, [], ◌∷◌, ◌++◌, ◌
 use Rattle.blart_keys.specs.Bytes.{less}
 use Rattle.art_tree.specs.Begins.{Bytes, Begins}
 use Rattle.art_tree.specs.Leaves.{Numbered, number_before}
-use Rattle.art_tree.specs.declared.tree.parting.Beside.{Beside}
-use Rattle.art_tree.specs.declared.tree.parting.Beside.TheVariants.{AfterLeaf, BeforeLeaf}
+use Rattle.art_tree.specs.declared.tree.point.Beside.{Beside}
+use Rattle.art_tree.specs.declared.tree.point.Beside.TheVariants.{AfterLeaf, BeforeLeaf}
 
 -- q and the key of `nearest` share their first `depth` bytes, and no key shares one more with q
 pub record LeavesNearest (keys : ℕ → Option Bytes) (nearest depth : ℕ) (q : Bytes) : Type 0 where

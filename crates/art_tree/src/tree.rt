@@ -17,7 +17,6 @@ mod change;
 mod clone;
 pub(crate) mod descent;
 mod free_subtree;
-pub(crate) mod parting;
 mod place;
 pub mod point;
 mod prefix;

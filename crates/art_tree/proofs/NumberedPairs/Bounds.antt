@@ -5,27 +5,27 @@ use Rattle.std.proofs.lemmas.Bool.{false≢true, false_from_ne_true, and_from, a
 use Rattle.std.proofs.lemmas.Bool.Decides.{eqb_tells}
 use Rattle.std.specs.declared.ops.Bound.{Bound}
 use Rattle.std.specs.declared.ops.Bound.TheVariants.{Included, Excluded, Unbounded}
-use Rattle.blart_keys.specs.Bytes.{begins, less, common}
+use Rattle.blart_keys.specs.Bytes.{begins, less, related}
 use Rattle.blart_keys.specs.Bounds.{is_from_start, is_up_to_end}
 use Rattle.blart_keys.specs.Content.{IsContent, at, under, between}
 use Rattle.blart_keys.proofs.PartLemmas.{less-from_PartsBelow, less-trans, less-irrefl, less_or, less-same}
 use Rattle.blart_keys.proofs.RankLemmas.{Member, Ranked, each_member, filter_none, filter_all}
 use Rattle.blart_keys.proofs.ContentLemmas.{Before, Ranked-from_content}
 use Rattle.art_tree.specs.Begins.{Bytes, Begins}
-use Rattle.art_tree.specs.Calls.Partings.{LeavesAt, KeyEnds, QueryEnds}
-use Rattle.art_tree.specs.Calls.Descents.{IsEndUnder, IsNearest}
-use Rattle.art_tree.specs.Places.{LastBefore, IsLeafBefore}
+use Rattle.art_tree.specs.Calls.Stops.{KeyEnds, QueryEnds}
+use Rattle.art_tree.specs.Calls.Descents.{IsEndUnder}
+use Rattle.art_tree.specs.Places.{LastBefore, IsLeafBefore, IsBeside, number_before_place}
 use Rattle.art_tree.specs.Leaves.{Numbered, AreDistinct, Has, bytes, keys_in, first_number, last_number, number_after, number_before, next_number}
 use Rattle.art_kinds.specs.Nodes.{Node}
 use Rattle.art_tree.specs.Seeks.{number_within, ends}
 use Rattle.art_tree.specs.Calls.Seeking.{beside, IsPlaceOf}
 use Rattle.art_tree.specs.Invariant.Shape.{Shape}
-use Rattle.art_tree.specs.declared.tree.parting.Mismatch.{Mismatch}
+use Rattle.art_tree.specs.declared.tree.point.Beside.{Beside}
 use Rattle.art_kinds.specs.declared.records.ids.Child.{Child}
-use Rattle.art_tree.proofs.BeginsLemmas.{common_length, Begins-itself, Begins-cases, Begins-from_begins}
+use Rattle.art_tree.proofs.BeginsLemmas.{Begins-itself, Begins-cases, Begins-from_begins}
 use Rattle.art_tree.proofs.Ways.Ends.{first_less, last_greater}
-use Rattle.art_tree.proofs.Ways.Partings.{no_key, no_key_alone}
-use Rattle.art_tree.proofs.NumberedPairs.Neighbours.{one_less, same_side, FirstFrom, IsLeafAfter, leaf_before_first_from, leaf_after_key}
+use Rattle.art_tree.proofs.Ways.Related.{no_key, no_key_alone}
+use Rattle.art_tree.proofs.NumberedPairs.Neighbours.{one_less, same_side, FirstFrom, IsLeafAfter, leaf_before_first_from, leaf_after_key, before_beside}
 use Rattle.art_rows.proofs.CallerLemmas.{Has-first, Has-last, no_last}
 use Rattle.art_tree.proofs.NumberedPairs.Answers.{pair, at_key, first_of_test, last_of_test, first_under, last_under}
 use Rattle.art_tree.proofs.NumberedPairs.Changes.{passing_has}
@@ -254,16 +254,8 @@ module _ {K V : Type 0} (key_bytes : K → Bytes) (pairs : List (Numbered K V)) 
   ends_under q a b u w = ends_are (under (bytes key_bytes) pairs q) a b (first_under key_bytes pairs content distinct q a u.key u.is u.front (first_less u)) (last_under key_bytes pairs content distinct q b w.key w.is w.front (last_greater w))
 
   -- if no key begins with q, there are no ends
-  none_under : (q : Bytes) → ((j : ℕ) (k : Bytes) → keys j ≡ Some k → Begins q k → ⊥) → ends (under (bytes key_bytes) pairs q) ≡ None
+  pub none_under : (q : Bytes) → ((j : ℕ) (k : Bytes) → keys j ≡ Some k → Begins q k → ⊥) → ends (under (bytes key_bytes) pairs q) ≡ None
   none_under q never = ap ends (filter_none (λ x. begins q (bytes key_bytes x)) pairs (λ y m. false_from_ne_true (begins q (bytes key_bytes y)) (λ t. never y.0 (bytes key_bytes y) (key_of_member key_bytes pairs y distinct m) (Begins-from_begins q (bytes key_bytes y) t))))
-
-  -- if no key has all bytes of q, no key begins with q
-  pub no_ends : (q : Bytes) (i : ℕ) (key : Bytes) (n : ℕ) → IsNearest keys q i key n → n < length q → ends (under (bytes key_bytes) pairs q) ≡ None
-  no_ends q i key n near short = none_under q (λ j k e b.
-      let a : length q ≤ length (common k q) = common_length q k q b (Begins-itself q) in
-      let c : length (common k q) ≤ length (common key q) = near.best j k e in
-      let d : n ≡ length (common key q) = near.shared in
-      omega arith)
 
   module _ (nodes : ℕ → Option Node) (q : Bytes) where
     -- the place of q if a key is a prefix of q: the leaf before q, and no key is q
@@ -278,6 +270,6 @@ module _ {K V : Type 0} (key_bytes : K → Bytes) (pairs : List (Numbered K V)) 
         let l : length q < length m.key = m.longer in
         (subst (λ (o : Option ℕ). IsLeafBefore keys q o) (sym e) (leaf_before_first_from key_bytes pairs content distinct q first (least_from keys q first u)), no_key keys nodes m.root m.shape m.leaf m.key m.is q (inr m.begun) (omega arith))
 
-    -- and if no key is related to q
-    pub place_apart : {P : ℕ} → (d : Mismatch) → LeavesAt P (keys_in key_bytes pairs) nodes d q → (o : Option ℕ) → IsLeafBefore keys q o → IsPlaceOf keys q (Err o)
-    place_apart d l o h = (h, no_key_alone keys q l.apart.alone)
+  -- and beside a child
+  pub place_beside : (q : Bytes) → ((j : ℕ) (k : Bytes) → keys j ≡ Some k → related k q ≡ false) → (beside : Beside) → IsBeside keys q beside → (o : Option ℕ) → o ≡ number_before_place pairs beside → IsPlaceOf keys q (Err o)
+  place_beside q alone beside st o e = (subst (λ (o : Option ℕ). IsLeafBefore keys q o) (sym e) (before_beside key_bytes pairs content distinct q alone beside st), no_key_alone keys q alone)

@@ -9,8 +9,8 @@ use Rattle.blart_keys.proofs.RankLemmas.{Member, Ranked, each_member, Member-app
 use Rattle.blart_keys.proofs.ContentLemmas.{Before, Ranked-from_content, put_between, related-same, unrelated_back}
 use Rattle.art_tree.specs.Begins.{Bytes, Begins, next_byte}
 use Rattle.art_tree.specs.Places.{LastBefore, FirstAfter, IsLeafBefore, IsBeside, number_before_place}
-use Rattle.art_tree.specs.declared.tree.parting.Beside.{Beside}
-use Rattle.art_tree.specs.declared.tree.parting.Beside.TheVariants.{AfterLeaf, BeforeLeaf}
+use Rattle.art_tree.specs.declared.tree.point.Beside.{Beside}
+use Rattle.art_tree.specs.declared.tree.point.Beside.TheVariants.{AfterLeaf, BeforeLeaf}
 use Rattle.art_kinds.specs.Edges.{child_at, IsPrevious, IsNext}
 use Rattle.art_tree.specs.Leaves.{Numbered, bytes, keys_in, leaf_in, AreDistinct, with_pair_after, first_number, number_after, number_before, number_before_from}
 use Rattle.art_kinds.specs.Nodes.{Node}

@@ -13,8 +13,8 @@ use Rattle.art_tree.specs.Invariant.Shape.{Shape}
 use Rattle.art_tree.specs.Calls.Spots.{SpotFits}
 use Rattle.art_tree.specs.Invariant.Sound.{IsSound}
 use Rattle.art_tree.specs.declared.tree.descent.Spot.{Spot}
-use Rattle.art_tree.specs.declared.tree.parting.Beside.{Beside}
-use Rattle.art_tree.specs.declared.tree.parting.Beside.TheVariants.{AfterLeaf, BeforeLeaf}
+use Rattle.art_tree.specs.declared.tree.point.Beside.{Beside}
+use Rattle.art_tree.specs.declared.tree.point.Beside.TheVariants.{AfterLeaf, BeforeLeaf}
 use Rattle.art_tree.specs.declared.tree.point.Place.{Place}
 use Rattle.art_kinds.specs.declared.records.ids.Child.{Child}
 use Rattle.art_kinds.specs.declared.records.ids.Child.TheVariants.{Leaf}

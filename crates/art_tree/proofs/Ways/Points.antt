@@ -3,7 +3,7 @@ use Rattle.std.proofs.Common.{◌≡◌, ℕ, ◌<◌, true, false, List, inl, l
 use Rattle.blart_keys.specs.Bytes.{related}
 use Rattle.blart_keys.specs.Content.{IsContent}
 use Rattle.art_tree.specs.Begins.{Bytes}
-use Rattle.art_tree.specs.Calls.Partings.{KeyEnds, QueryEnds}
+use Rattle.art_tree.specs.Calls.Stops.{KeyEnds, QueryEnds}
 use Rattle.art_tree.specs.Calls.Descents.{IsEndUnder}
 use Rattle.art_tree.specs.Leaves.{Numbered, AreDistinct, keys_in, bytes}
 use Rattle.art_kinds.specs.Nodes.{Node}
@@ -14,7 +14,7 @@ use Rattle.art_kinds.specs.declared.records.ids.Child.{Child}
 use Rattle.art_tree.proofs.BeginsLemmas.{related-from_front, related-from_begun}
 use Rattle.art_tree.proofs.Ways.Ends.{first_less, last_greater}
 use Rattle.art_tree.proofs.NumberedPairs.Answers.{pair, at_key, conflict_key, first_related, last_related}
-use Rattle.art_tree.proofs.Ways.Partings.{only_related, related_begun}
+use Rattle.art_tree.proofs.Ways.Related.{only_related, related_begun}
 
 module _ {K V : Type 0} (key_bytes : K → List ℕ) (pairs : List (Numbered K V)) (content : IsContent (bytes key_bytes) pairs) (distinct : AreDistinct pairs) (nodes : ℕ → Option Node) (q : Bytes) where
   -- a key is the query

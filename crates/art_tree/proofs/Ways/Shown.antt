@@ -5,7 +5,7 @@ use Rattle.std.specs.Prelude.{not}
 use Rattle.art_kinds.specs.Edges.{child_at}
 use Rattle.art_tree.specs.Begins.{Bytes, Begins}
 use Rattle.art_tree.specs.Calls.Descents.{IsEndUnder}
-use Rattle.art_tree.specs.Calls.Partings.{LeavesAtNode, IsNextTo}
+use Rattle.art_tree.specs.Calls.Stops.{LeavesAtNode, IsNextTo}
 use Rattle.art_tree.specs.Invariant.EdgesAbove.{LeadsTo, edge_front}
 use Rattle.art_tree.specs.Invariant.Shape.{Shape, Covers, CoversLeaf, CoversNode}
 use Rattle.art_tree.specs.Calls.Placing.{IsOverLeaf}
@@ -24,24 +24,24 @@ use Rattle.art_tree.specs.declared.tree.point.Place.{Place}
 use Rattle.art_tree.proofs.BeginsLemmas.{Begins-edge_front, Begins-linear, Begins-take, take_front}
 use Rattle.art_tree.proofs.Invariant.Growing.{covers_above}
 
-module _ {P : ℕ} (keys : ℕ → Option Bytes) (nodes : ℕ → Option Node) (root : Option Child) (s : Shape P keys nodes root) (leaf depth : ℕ) (nearest : Bytes) (is : keys leaf ≡ Some nearest) (above : Option (ℕ × ℕ)) where
-  -- the front of an edge of a node that is less deep is no longer than the depth
-  front_within : (c : Child) → (a : Option (ℕ × ℕ)) → LeadsTo nodes root a c → EndsBelow nodes a depth → length (edge_front s.front_of a) ≤ depth
-  front_within c None l e = omega arith
-  front_within c (Some a) l e =
-      let x : nodes a.0 ≡ Some e.0 = e.1 in
-      let y : nodes a.0 ≡ Some l.0 = l.1 in
-      let same : e.0 ≡ l.0 = cc in
-      let d : l.0.depth ≡ length (s.front_of a.0) = (s.node a.0 l.0 l.1).depth in
-      let d2 : e.0.depth ≡ l.0.depth = ap (λ (z : Node). z.depth) same in
-      let lt : e.0.depth < depth = e.2 in
-      let k : length (s.front_of a.0 ++ a.1 ∷ []) ≡ length (s.front_of a.0) + 1 = length-append (s.front_of a.0) (a.1 ∷ []) in
-      omega arith
+-- the front of an edge of a node that is less deep is no longer than the depth
+pub front_within : {P : ℕ} {keys : ℕ → Option Bytes} {nodes : ℕ → Option Node} {root : Option Child} (s : Shape P keys nodes root) {depth : ℕ} (c : Child) (a : Option (ℕ × ℕ)) → LeadsTo nodes root a c → EndsBelow nodes a depth → length (edge_front s.front_of a) ≤ depth
+front_within s c None l e = omega arith
+front_within {nodes = nodes} s {depth = depth} c (Some a) l e =
+    let x : nodes a.0 ≡ Some e.0 = e.1 in
+    let y : nodes a.0 ≡ Some l.0 = l.1 in
+    let same : e.0 ≡ l.0 = cc in
+    let d : l.0.depth ≡ length (s.front_of a.0) = (s.node a.0 l.0 l.1).depth in
+    let d2 : e.0.depth ≡ l.0.depth = ap (λ (z : Node). z.depth) same in
+    let lt : e.0.depth < depth = e.2 in
+    let k : length (s.front_of a.0 ++ a.1 ∷ []) ≡ length (s.front_of a.0) + 1 = length-append (s.front_of a.0) (a.1 ∷ []) in
+    omega arith
 
+module _ {P : ℕ} (keys : ℕ → Option Bytes) (nodes : ℕ → Option Node) (root : Option Child) (s : Shape P keys nodes root) (leaf depth : ℕ) (nearest : Bytes) (is : keys leaf ≡ Some nearest) (above : Option (ℕ × ℕ)) where
   -- an edge that does not begin too deep, and leads past the depth
   pub shown_past : (c : Child) → depth ≤ length nearest → LeadsTo nodes root above c → EndsBelow nodes above depth → Begins (edge_front s.front_of above) nearest → PastDepth nodes depth c → SpotFits nodes root s.front_of nearest depth (spot.Edge above c)
   shown_past c long leads ends front past =
-      let w : length (edge_front s.front_of above) ≤ depth = front_within c above leads ends in
+      let w : length (edge_front s.front_of above) ≤ depth = front_within s c above leads ends in
       let l : length (take depth nearest) ≡ depth = length-take-le depth nearest long in
       (record { leads = leads; along = Begins-linear (edge_front s.front_of above) (take depth nearest) nearest front (Begins-take depth nearest) (omega arith) }, go c past)
     where
@@ -77,17 +77,22 @@ module _ {P : ℕ} (keys : ℕ → Option Bytes) (nodes : ℕ → Option Node) (
       shown_front n x o.is o.deep leads (Begins-edge_front (s.front_of n) nearest byte (subst (λ (z : Bytes). Begins (s.front_of n ++ byte ∷ []) z) same c.front))
 
 -- the edge above the start of a descent is the edge above its stop
-pub stop_below : (nodes : ℕ → Option Node) (root : Option Child) (above : Option (ℕ × ℕ)) (start : ℕ) {child own : Child} → child ≡ own → LeadsTo nodes root above child → StartsBelow nodes above start → (s : Stop) → StopsAt nodes own start s → IsStopBelow nodes root above s
-stop_below nodes root above start is leads starts (stop.Same i) at = tt
-stop_below nodes root above start is leads starts (stop.Shorter i) at = tt
-stop_below nodes root above start is leads starts (stop.Longer c) at = tt
-stop_below nodes root above start is leads starts (stop.AtNode n depth) at = subst (λ (z : Child). LeadsTo nodes root above z) (is ∙ at) leads
-stop_below nodes root above start is leads starts (stop.AtEdge c depth byte) at =
-    (subst (λ (z : Child). LeadsTo nodes root above z) (is ∙ at.0) leads, ends above starts, at.2)
+pub stop_below : (nodes : ℕ → Option Node) (root : Option Child) (n : ℕ) (above : Option (ℕ × ℕ)) (start : ℕ) {child own : Child} → child ≡ own → LeadsTo nodes root above child → StartsBelow nodes above start → start ≤ n → (s : Stop) → StopsAt nodes own start s → IsStopBelow nodes root n above s
+stop_below nodes root n above start {child} {own} is leads starts within s at = go s at
   where
-    ends : (a : Option (ℕ × ℕ)) → StartsBelow nodes a start → EndsBelow nodes a depth
-    ends None s = tt
-    ends (Some e) s = let low : start ≤ depth = at.1 in let one : start ≡ s.0.depth + 1 = s.2 in (s.0, s.1, omega arith)
+    ends : (a : Option (ℕ × ℕ)) → StartsBelow nodes a start → (depth : ℕ) → start ≤ depth → EndsBelow nodes a depth
+    ends None s depth low = tt
+    ends (Some e) s depth low = let one : start ≡ s.0.depth + 1 = s.2 in (s.0, s.1, omega arith)
+
+    to : (c : Child) → own ≡ c → LeadsTo nodes root above c
+    to c e = subst (λ (z : Child). LeadsTo nodes root above z) (is ∙ e) leads
+
+    go : (s : Stop) → StopsAt nodes own start s → IsStopBelow nodes root n above s
+    go (stop.Same i) at = (to (Leaf i) at, ends above starts n within)
+    go (stop.Shorter i) at = tt
+    go (stop.Longer c) at = (to c at, ends above starts n within)
+    go (stop.AtNode m depth) at = to (Inner m) at
+    go (stop.AtEdge c depth byte) at = (to c at.0, ends above starts depth at.1, at.2)
 
 -- the edge next to a byte is an edge of the node
 next_there : (is_after : Bool) (es : List Edge) (b : ℕ) (e : Edge) → IsNextTo is_after es b e → child_at es e.byte ≡ Some e.to

@@ -10,8 +10,7 @@ use Rattle.art_tree.specs.Places.{LeavesNearest}
 use Rattle.art_tree.specs.Invariant.EdgesAbove.{edge_front}
 use Rattle.art_tree.specs.Invariant.Shape.{Shape, Covers, CoversLeaf, CoversNode, NodeFits}
 use Rattle.art_tree.specs.Calls.Descents.{IsEndUnder}
-use Rattle.art_tree.specs.Calls.Partings.{KeyEnds, QueryEnds, LeavesAtNode, LeavesAtEdge, IsNextTo}
-use Rattle.art_tree.specs.Calls.Stops.{IsShared, OnWay, IsPlaceUnder}
+use Rattle.art_tree.specs.Calls.Stops.{IsShared, OnWay, IsPlaceUnder, KeyEnds, QueryEnds, LeavesAtNode, LeavesAtEdge, IsNextTo}
 use Rattle.art_kinds.specs.Edges.{child_at}
 use Rattle.art_kinds.specs.Nodes.{Node}
 use Rattle.art_kinds.specs.declared.records.ids.Child.{Child}
@@ -21,8 +20,8 @@ use Rattle.std.specs.Prelude.{ltb}
 use Rattle.art_tree.proofs.BeginsLemmas.{Begins-itself, Begins-trans, Begins-linear, Begins-equal, Begins-more, Begins-next, Begins-take, Begins-length, Begins-edge_front, common-greatest, common-in_left, common-in_right, common-left, common-right, common_length, related_cases, take_front}
 use Rattle.art_tree.proofs.Invariant.Growing.{covers_above, some_key}
 use Rattle.art_tree.proofs.Invariant.SmallShapes.{unrelated}
-use Rattle.art_tree.proofs.Ways.Mismatches.{beside_at_node, beside_at_edge}
-use Rattle.art_tree.proofs.Ways.Partings.{nearest_same, nearest_begins, nearest_begun}
+use Rattle.art_tree.proofs.Ways.Beside.{beside_at_node, beside_at_edge}
+use Rattle.art_tree.proofs.Ways.Related.{nearest_same, nearest_begins, nearest_begun}
 
 -- ---- the common prefix of two lists after a prefix of both
 
@@ -147,6 +146,15 @@ module _ {P : ℕ} (keys : ℕ → Option Bytes) (nodes : ℕ → Option Node) (
         },
         refl,
       )
+
+-- ---- the bytes that a descent has passed
+
+-- they are bytes of the query
+pub way_within : {P : ℕ} {keys : ℕ → Option Bytes} {nodes : ℕ → Option Node} {c : Child} {start : ℕ} {q : Bytes} → OnWay P keys nodes c start q → start ≤ length q
+way_within {start = start} {q = q} w =
+    let e : start ≡ length (edge_front w.shape.front_of w.above) = w.start_is in
+    let l : length (edge_front w.shape.front_of w.above) ≤ length q = Begins-length (edge_front w.shape.front_of w.above) q w.along in
+    omega arith
 
 -- ---- at a node
 
@@ -299,12 +307,6 @@ module _ {P : ℕ} {keys : ℕ → Option Bytes} {nodes : ℕ → Option Node} {
         let l : length (edge_front w.shape.front_of w.above) ≤ length key = Begins-length (edge_front w.shape.front_of w.above) key leaf_front in
         omega arith
 
-    pub start_in_q : start ≤ length q
-    start_in_q =
-        let e : start ≡ length (edge_front w.shape.front_of w.above) = w.start_is in
-        let l : length (edge_front w.shape.front_of w.above) ≤ length q = Begins-length (edge_front w.shape.front_of w.above) q w.along in
-        omega arith
-
     -- the common prefix has the bytes before `start`, and the common bytes from `start` on
     pub leaf_common : length (common key q) ≡ start + length (common (drop start key) (drop start q))
     leaf_common =
@@ -364,24 +366,22 @@ module _ {P : ℕ} {keys : ℕ → Option Bytes} {nodes : ℕ → Option Node} {
         let l : length (edge_front w.shape.front_of w.above) ≤ length own_front = Begins-length (edge_front w.shape.front_of w.above) own_front (node_covers w).front in
         omega arith
 
-    pub start_in_query : start ≤ length q
-    start_in_query =
-        let e : start ≡ length (edge_front w.shape.front_of w.above) = w.start_is in
-        let l : length (edge_front w.shape.front_of w.above) ≤ length q = Begins-length (edge_front w.shape.front_of w.above) q w.along in
-        omega arith
-
     -- the common prefix, from the front's own bytes
     pub shared_from : {len byte : ℕ} → len ≡ start + length (common (drop start own_front) (drop start q)) → (len < length own_front → byte ≡ get_or own_front len 0) → IsShared own_front q len byte
     shared_from e next = record { is = e ∙ sym shared_after; next = λ a b. next a }
 
-    -- a key below the node, cut at the node's depth, is the front
-    pub cut_front : {x : Node} → nodes n ≡ Some x → {first : Bool} {j : ℕ} → IsEndUnder keys first (edge_front w.shape.front_of w.above) j → {k : Bytes} → keys j ≡ Some k → {depth : ℕ} → depth ≡ x.depth → (take depth k ≡ own_front) × (depth ≤ length k)
-    cut_front {x} x_is {j = j} u {k} k_is {depth} e =
+    -- the keys below an edge of the node
+    pub edge_covers : {x : Node} → nodes n ≡ Some x → (b : ℕ) {c : Child} → child_at x.edges b ≡ Some c → Covers keys nodes w.shape.front_of (own_front ++ b ∷ []) c
+    edge_covers {x} is b {c} there = (w.shape.node n x is).below b c there
+
+    -- a key below an edge of the node, cut at the node's depth, is the front
+    pub cut_front : {x : Node} → nodes n ≡ Some x → {first : Bool} (b : ℕ) {j : ℕ} → IsEndUnder keys first (own_front ++ b ∷ []) j → {k : Bytes} → keys j ≡ Some k → {depth : ℕ} → depth ≡ x.depth → (take depth k ≡ own_front) × (depth < length k)
+    cut_front {x} x_is b {j = j} u {k} k_is {depth} e =
         let d : x.depth ≡ length own_front = (w.shape.node n x x_is).depth in
         let same : u.key ≡ k = (let own : keys j ≡ Some u.key = u.is in cc) in
-        let f : Begins own_front k = (node_covers w).only j k k_is (subst (λ (z : Bytes). Begins (edge_front w.shape.front_of w.above) z) same u.front) in
-        let l : length own_front ≤ length k = Begins-length own_front k f in
-        (ap (λ (z : ℕ). take z k) (e ∙ d) ∙ take_front own_front k f, omega arith)
+        let on : Begins (own_front ++ b ∷ []) k = subst (λ (z : Bytes). Begins (own_front ++ b ∷ []) z) same u.front in
+        let l : length (own_front ++ b ∷ []) ≤ length k = Begins-length (own_front ++ b ∷ []) k on in
+        (ap (λ (z : ℕ). take z k) (e ∙ d) ∙ take_front own_front k (Begins-edge_front own_front k b on), omega (arith, length-append own_front (b ∷ [])))
 
     module _ {x : Node} (is : nodes n ≡ Some x) where
       pub kept_is : x.prefix ≡ take P (drop start own_front)

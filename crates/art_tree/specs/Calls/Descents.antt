@@ -35,14 +35,6 @@ pub record HasEdges (nodes : ℕ → Option Node) (n : ℕ) : Type 0 where
   pub is : nodes n ≡ Some node
   pub some : 0 < length node.edges
 
--- an edge of the node leads to the child, by the next byte of q if there is such an edge
-pub record GoesToward (nodes : ℕ → Option Node) (n : ℕ) (q : Bytes) (c : Child) : Type 0 where
-  pub node : Node
-  pub is : nodes n ≡ Some node
-  pub byte : ℕ
-  pub there : child_at node.edges byte ≡ Some c
-  pub way : (length q ≤ node.depth) ⊎ ((byte ≡ slice_index q node.depth) ⊎ (child_at node.edges (slice_index q node.depth) ≡ None))
-
 -- two keys part, the first before the second in ascending order, or in descending order
 abbrev pub PartsBefore : Bool → Bytes → Bytes → Type 0
 PartsBefore true k l = PartsBelow k l
@@ -55,19 +47,6 @@ module _ (keys : ℕ → Option Bytes) where
     pub is : keys i ≡ Some key
     pub front : Begins g key
     pub end : (j : ℕ) (k : Bytes) → keys j ≡ Some k → Begins g k → (j ≡ i) ⊎ PartsBefore is_first key k
-
-  -- no key has a longer common prefix with q than that of the leaf
-  pub record IsNearestLeaf (q : Bytes) (i : ℕ) : Type 0 where
-    pub key : Bytes
-    pub is : keys i ≡ Some key
-    pub best : (j : ℕ) (k : Bytes) → keys j ≡ Some k → length (common k q) ≤ length (common key q)
-
-module _ (keys : ℕ → Option Bytes) (q : Bytes) (i : ℕ) (key : Bytes) (n : ℕ) where
-  -- the longest common prefix of q and the leaf's key has n bytes, and no key has a longer one
-  pub record IsNearest : Type 0 where
-    pub is : keys i ≡ Some key
-    pub shared : n ≡ length (common key q)
-    pub best : (j : ℕ) (k : Bytes) → keys j ≡ Some k → length (common k q) ≤ length (common key q)
 
 module _ (keys : ℕ → Option Bytes) (nodes : ℕ → Option Node) (front_of : ℕ → Bytes) (f : Bytes) (old new : ℕ) where
   -- no node has the front f

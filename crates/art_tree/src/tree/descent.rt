@@ -3,7 +3,7 @@ ghost use Rattle.std.specs.Prelude.{◌≡◌, ℕ, ◌+◌, ◌<◌, ◌≤◌,
 ghost use Rattle.art_tree.specs.Begins.{Bytes};
 ghost use Rattle.art_kinds.specs.Nodes.{at};
 ghost use Rattle.art_tree.specs.Invariant.Shape.{Shape, Covers};
-ghost use Rattle.art_tree.specs.Calls.Descents.{IsSubtree, IsRoot, HasEdges, GoesToward, IsWayOf, Finds, IsEndUnder, IsNearestLeaf};
+ghost use Rattle.art_tree.specs.Calls.Descents.{IsSubtree, IsRoot, IsWayOf, Finds, IsEndUnder};
 ghost use Rattle.art_tree.specs.Calls.Spots.{SpotFits};
 ghost use Rattle.art_kinds.specs.declared.records.ids.Child.{Child as Way};
 
@@ -63,47 +63,6 @@ pub(crate) struct Branch {
     pub(crate) child: Child,
     pub(crate) first: LeafId,
     pub(crate) last: LeafId,
-}
-
-/// Returns a leaf whose key has the longest common prefix with the query.
-pub(crate) fn find_nearest<const P: usize>(
-    nodes: &Nodes<P>,
-    root: &Child,
-    query: &[u8],
-    visits: &mut Visits,
-) -> LeafId
-    requires { IsRoot P (at nodes.now) root.now }
-    ensures nearest { (keys : ℕ → Option Bytes) → Shape P keys (at nodes.now) (Some root.now)
-        → IsNearestLeaf keys query.now result }
-    ensures counted { (keys : ℕ → Option Bytes) → Shape P keys (at nodes.now) (Some root.now)
-        → (key : Bytes) → keys result ≡ Some key
-        → visits.new.count ≤ visits.old.count + length key }
-    ensures grows { visits.old.count ≤ visits.new.count }
-{
-    let mut at = *root;
-    'down: loop {
-        match at {
-            Child::Leaf(id) => return id,
-            Child::Inner(id) => at = toward(nodes, id, query, visits),
-        }
-    }
-}
-
-/// Returns the child of the node by the query's next byte. If the query has ended, or no edge has
-/// that byte, returns the child of the first edge.
-fn toward<const P: usize>(nodes: &Nodes<P>, id: NodeId, query: &[u8], visits: &mut Visits) -> Child
-    requires { HasEdges (at nodes.now) id }
-    ensures child { GoesToward (at nodes.now) id query.now result }
-    ensures counted { visits.new.count ≡ visits.old.count + 1 }
-{
-    let node = nodes.read(id, visits);
-    let depth = node.depth();
-    if depth < query.len() {
-        if let Some(child) = node.find(query[depth]) {
-            return child;
-        }
-    }
-    node.end_edge(true).to
 }
 
 /// Returns the leaf with the least key below a child if `is_first` is set, or else the one with the

@@ -15,8 +15,7 @@ ghost use Rattle.art_kinds.specs.declared.records.ids.Child.{Child as Way};
 ghost use Rattle.art_kinds.specs.declared.records.ids.Child.TheVariants.{Inner};
 
 use crate::tree::descent::{EdgeAbove, Spot, locate};
-use crate::tree::parting::leaf_before;
-use crate::tree::point::{Place, Point};
+use crate::tree::point::{Place, Point, leaf_before};
 use art_kinds::{Child, Edge, NodeId, Nodes};
 use art_rows::{Leaves, Position};
 use art_slots::{LeafId, Visits};

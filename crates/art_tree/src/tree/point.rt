@@ -1,22 +1,21 @@
 //! Points: the leaf that has some bytes, or the place for a new one.
 ghost use Rattle.std.specs.Prelude.{◌≡◌, ℕ, not, Option, Some};
 ghost use Rattle.art_tree.specs.Begins.{Bytes};
-ghost use Rattle.art_tree.specs.Places.{LeavesNearest, IsBeside, neighbour};
+ghost use Rattle.art_tree.specs.Places.{LeavesNearest, IsBeside, neighbour, number_before_place};
 ghost use Rattle.art_tree.specs.Calls.Descents.{IsEndUnder};
 ghost use Rattle.art_tree.specs.Calls.Placing.{IfFree, IsShownIn};
 ghost use Rattle.art_tree.specs.Calls.Stops.{IsPlaceUnder};
 ghost use Rattle.art_tree.specs.Invariant.Shape.{Shape, Covers};
-ghost use Rattle.art_tree.specs.Leaves.{keys_in};
+ghost use Rattle.art_tree.specs.Leaves.{Has, keys_in};
 ghost use Rattle.art_kinds.specs.declared.records.ids.Child.{Child as Way};
 ghost use Rattle.art_kinds.specs.Nodes.{at};
 ghost use Rattle.art_tree.specs.Points.{IsGood};
 ghost use Rattle.art_tree.specs.Invariant.Sound.{IsSound};
 
 use crate::tree::descent::{Spot, end_under};
-use crate::tree::parting::{Beside, edge_beside};
-use crate::tree::stop::{Stop, stop_of};
+use crate::tree::stop::{Stop, edge_beside, stop_of};
 use art_kinds::{Child, Edge, Nodes};
-use art_rows::Leaves;
+use art_rows::{Leaves, Position};
 use art_slots::{LeafId, Visits};
 use blart_keys::AsBytes;
 
@@ -34,6 +33,15 @@ pub struct Place {
     pub(crate) spot: Spot,
     /// The byte of an edge to the nearest leaf.
     pub(crate) byte: u8,
+}
+
+/// A leaf beside a place.
+#[derive(Clone, Copy)]
+pub(crate) enum Beside {
+    /// The place is after this leaf.
+    AfterLeaf(LeafId),
+    /// The place is before this leaf.
+    BeforeLeaf(LeafId),
 }
 
 /// What a tree has at some bytes.
@@ -68,7 +76,7 @@ pub(crate) fn point_below<K: AsBytes, V, const P: usize>(
 {
     leaves.law();
     let mut visits = Visits::new();
-    let (stop, above) = stop_of(leaves, nodes, root, query);
+    let (stop, above) = stop_of(leaves, nodes, root, query, &mut visits);
     match stop {
         Stop::Same(id) => Point::Exact(id),
         Stop::Shorter(id) => Point::Related {
@@ -133,6 +141,24 @@ fn place_under<const P: usize>(
             beside: Beside::BeforeLeaf(nearest),
             spot: *spot,
             byte: edge.byte,
+        }
+    }
+}
+
+/// Returns the leaf before a place, if there is one, and a guess of its position.
+pub(crate) fn leaf_before<K: AsBytes, V>(
+    leaves: &Leaves<K, V>,
+    beside: &Beside,
+) -> (Option<LeafId>, Position)
+    requires { Has leaves.now.pairs (neighbour beside.now) }
+    ensures { result.0 ≡ number_before_place leaves.now.pairs beside.now }
+{
+    match beside {
+        Beside::AfterLeaf(id) => (Some(*id), Position::unknown()),
+        Beside::BeforeLeaf(id) => {
+            let mut seen = Position::unknown();
+            let prev = leaves.prev_from(*id, &mut seen);
+            (prev, seen)
         }
     }
 }

@@ -1,20 +1,22 @@
 //! The first and the last pair within a bound, and of those with a prefix.
-ghost use Rattle.std.specs.Prelude.{◌≡◌, ◌≢◌, ◌+◌, ◌*◌, ◌<◌, ◌≤◌, [], length, option_map, Some, None, IfSome};
+ghost use Rattle.std.specs.Prelude.{◌≡◌, ◌≢◌, ◌+◌, ◌*◌, ◌<◌, ◌≤◌, [], length, option_map, Some, None, Err, IfSome};
 ghost use Rattle.std.specs.declared.ops.Bound.TheVariants.{Unbounded};
 ghost use Rattle.blart_keys.specs.Bounds.{bound_bytes};
-ghost use Rattle.blart_keys.specs.Content.{under};
+ghost use Rattle.blart_keys.specs.Content.{IsContent, under};
 ghost use Rattle.art_tree.specs.Leaves.{Has, keys_in, bytes};
 ghost use Rattle.art_tree.specs.Longest.{longest};
 ghost use Rattle.art_tree.specs.Seeks.{number_within, ends, bound_len};
 ghost use Rattle.art_tree.specs.Calls.Seeking.{IsPlaceOf, beside};
+ghost use Rattle.art_tree.specs.Calls.Stops.{IsChildBeside};
+ghost use Rattle.art_tree.specs.Begins.{Bytes};
 ghost use Rattle.art_tree.specs.Calls.Pruning.{IsBranch};
 ghost use Rattle.art_kinds.specs.Nodes.{at};
 ghost use Rattle.art_tree.specs.Invariant.Shape.{Shape};
 ghost use Rattle.art_tree.specs.Invariant.Sound.{IsSound};
 
 use crate::tree::Tree;
-use crate::tree::descent::{Branch, end_under, locate};
-use crate::tree::parting::{Parting, leaf_before, leaf_beside, nearest_leaf, parting_of};
+use crate::tree::descent::{Branch, end_under};
+use crate::tree::stop::{Stop, edge_beside, stop_of};
 use art_kinds::{Child, Nodes};
 use art_rows::Leaves;
 use art_slots::{LeafId, Visits};
@@ -26,8 +28,8 @@ impl<K: AsBytes, V, const PREFIX_LEN: usize> Tree<K, V, PREFIX_LEN> {
     /// there is no such leaf.
     ///
     /// Cost: at most (n + 2) * (L + 1) visits, if the bound has n bytes (0 if it is unbounded) and
-    /// the longest key has L bytes, and none on an empty tree. It makes at least one visit if the
-    /// bound has bytes, or if it returns `None`, and the tree is not empty.
+    /// the longest key has L bytes, and none on an empty tree. On another tree it makes at least
+    /// one visit if there is a bound, or if it returns `None`.
     pub fn seek(&self, bound: Bound<&[u8]>, is_start: bool, visits: &mut Visits) -> Option<LeafId>
         ensures found { result
             ≡ number_within (bytes K.bytes) self.now.pairs
@@ -151,17 +153,50 @@ fn place_below<K: AsBytes, V, const P: usize>(
     ensures grows { visits.old.count < visits.new.count }
 {
     leaves.law();
-    match parting_of(leaves, nodes, root, query, visits) {
-        Parting::Same(id) => Ok(id),
-        Parting::Shorter(id) => Err(Some(id)),
-        Parting::Longer(child) => {
+    let (stop, _) = stop_of(leaves, nodes, root, query, visits);
+    match stop {
+        Stop::Same(id) => Ok(id),
+        Stop::Shorter(id) => Err(Some(id)),
+        Stop::Longer(child) => {
             let first = end_under(nodes, &child, true, visits);
             Err(leaves.prev_of(first))
         }
-        Parting::Apart(mismatch) => {
-            let beside = leaf_beside(nodes, &mismatch, query, visits);
-            Err(leaf_before(leaves, &beside).0)
+        Stop::AtNode(id, depth) => {
+            let (edge, is_after) = edge_beside(nodes, &id, query[depth], visits);
+            Err(leaf_beside(leaves, nodes, &edge.to, is_after, visits))
         }
+        Stop::AtEdge(child, depth, byte) => {
+            let is_after = byte < query[depth];
+            Err(leaf_beside(leaves, nodes, &child, is_after, visits))
+        }
+    }
+}
+
+/// Returns the leaf before the place beside a child, if there is one. The place is after the keys
+/// below the child if `is_after` is set, or else before them.
+fn leaf_beside<K: AsBytes, V, const P: usize>(
+    leaves: &Leaves<K, V>,
+    nodes: &Nodes<P>,
+    child: &Child,
+    is_after: bool,
+    visits: &mut Visits,
+) -> Option<LeafId>
+    requires content { IsContent (bytes K.bytes) leaves.now.pairs }
+    requires beside { (q : Bytes)
+        × IsChildBeside P (keys_in K.bytes leaves.now.pairs) (at nodes.now) q child.now is_after }
+    ensures place { (q : Bytes)
+        → IsChildBeside P (keys_in K.bytes leaves.now.pairs) (at nodes.now) q child.now is_after
+        → IsPlaceOf (keys_in K.bytes leaves.now.pairs) q (Err result) }
+    ensures counted { visits.new.count
+        ≤ visits.old.count + longest (bytes K.bytes) leaves.now.pairs }
+    ensures grows { visits.old.count ≤ visits.new.count }
+{
+    leaves.law();
+    let end = end_under(nodes, child, !is_after, visits);
+    if is_after {
+        Some(end)
+    } else {
+        leaves.prev_of(end)
     }
 }
 
@@ -181,20 +216,17 @@ pub(crate) fn branch_below<K: AsBytes, V, const P: usize>(
         → IfSome result (IsBranch (keys_in K.bytes leaves.now.pairs) (at nodes.now)
         (Some root.now) s.front_of front.now) }
     ensures counted { visits.new.count
-        ≤ visits.old.count + 3 * longest (bytes K.bytes) leaves.now.pairs + 2 }
+        + 2 ≤ visits.old.count + (length front.now + 3)
+        * (longest (bytes K.bytes) leaves.now.pairs + 1) }
     ensures grows { visits.old.count < visits.new.count }
 {
     leaves.law();
-    let (_, key, depth) = nearest_leaf(leaves, nodes, root, front, visits);
-    if depth < front.len() {
-        return None;
-    }
-    let spot = locate(nodes, root, key, depth, visits);
-    let child = spot.child();
+    let (stop, above) = stop_of(leaves, nodes, root, front, visits);
+    let child = stop.top()?;
     let first = end_under(nodes, &child, true, visits);
     let last = end_under(nodes, &child, false, visits);
     Some(Branch {
-        above: spot.above(),
+        above,
         child,
         first,
         last,

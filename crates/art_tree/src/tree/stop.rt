@@ -1,15 +1,17 @@
 //! The descent by the bytes of a query. The prefixes that the nodes keep are compared on the way. A
 //! leaf is read at the end, or if a prefix is longer than the bytes that its node keeps.
-ghost use Rattle.std.specs.Prelude.{◌≡◌, Some};
-ghost use Rattle.art_tree.specs.Calls.Stops.{OnWay, IsShared, IsStop, IsStep, StopsAt, IsStopBelow};
-ghost use Rattle.art_tree.specs.Leaves.{keys_in};
+ghost use Rattle.std.specs.Prelude.{◌≡◌, ◌+◌, ◌*◌, ◌<◌, ◌≤◌, ℕ, length, Option, Some};
+ghost use Rattle.art_tree.specs.Begins.{Bytes};
+ghost use Rattle.art_tree.specs.Calls.Stops.{OnWay, IsShared, IsStop, IsStep, StopsAt, IsStopBelow, LeavesAtNode, IsEdgeBeside};
+ghost use Rattle.art_tree.specs.Leaves.{keys_in, bytes};
+ghost use Rattle.art_tree.specs.Longest.{longest};
 ghost use Rattle.art_kinds.specs.Nodes.{at};
 ghost use Rattle.art_tree.specs.Invariant.Sound.{IsSound};
 ghost use Rattle.art_kinds.specs.declared.records.ids.Child.TheVariants.{Leaf, Inner};
 
 use crate::lists::{common_len, common_len_after};
 use crate::tree::descent::{EdgeAbove, end_under};
-use art_kinds::{Child, NodeId, NodeRef, Nodes};
+use art_kinds::{Child, Edge, NodeId, NodeRef, Nodes};
 use art_rows::Leaves;
 use art_slots::{LeafId, Visits};
 use blart_keys::AsBytes;
@@ -28,6 +30,23 @@ pub(crate) enum Stop {
     /// The query leaves the keys below this child after this number of bytes. The last field is the
     /// next byte of the keys.
     AtEdge(Child, usize, u8),
+}
+
+impl Stop {
+    ghost use Rattle.std.specs.Prelude.{◌≡◌};
+    ghost use Rattle.art_tree.specs.Calls.Stops.{top_of};
+
+    /// Returns the child at the top of the keys that begin with the query, or `None` if there are
+    /// no such keys.
+    pub(crate) fn top(&self) -> Option<Child>
+        ensures { result ≡ top_of self.now }
+    {
+        match self {
+            Stop::Same(id) => Some(Child::Leaf(*id)),
+            Stop::Longer(child) => Some(*child),
+            Stop::Shorter(_) | Stop::AtNode(_, _) | Stop::AtEdge(_, _, _) => None,
+        }
+    }
 }
 
 /// What follows a node of a descent.
@@ -53,20 +72,27 @@ pub(crate) fn stop_of<K: AsBytes, V, const P: usize>(
     nodes: &Nodes<P>,
     root: &Child,
     query: &[u8],
+    visits: &mut Visits,
 ) -> (Stop, EdgeAbove)
     requires { IsSound K.bytes P leaves.now nodes.now (Some root.now) }
     ensures stop { IsStop P (keys_in K.bytes leaves.now.pairs) (at nodes.now) result.0 query.now }
-    ensures above { IsStopBelow (at nodes.now) (Some root.now) result.1 result.0 }
+    ensures above { IsStopBelow (at nodes.now) (Some root.now) (length query.now) result.1 result.0 }
+    ensures counted { visits.new.count
+        ≤ visits.old.count + (length query.now + 1)
+        * (longest (bytes K.bytes) leaves.now.pairs + 1) }
+    ensures grows { visits.old.count < visits.new.count }
 {
     let mut child = *root;
     let mut above = None;
     let mut start = 0;
     'down: loop {
         let id = match child {
-            Child::Leaf(id) => return (stop_at_leaf(leaves, nodes, start, id, query), above),
+            Child::Leaf(id) => {
+                return (stop_at_leaf(leaves, nodes, start, id, query, visits), above);
+            }
             Child::Inner(id) => id,
         };
-        match step_at(leaves, nodes, start, id, query) {
+        match step_at(leaves, nodes, start, id, query, visits) {
             Step::Stops(stop) => return (stop, above),
             Step::Down(to, next, byte) => {
                 above = Some((id, byte));
@@ -84,13 +110,15 @@ fn stop_at_leaf<K: AsBytes, V, const P: usize>(
     start: usize,
     id: LeafId,
     query: &[u8],
+    visits: &mut Visits,
 ) -> Stop
     requires { OnWay P (keys_in K.bytes leaves.now.pairs) (at nodes.now) (Leaf id) start query.now }
-    ensures { IsStop P (keys_in K.bytes leaves.now.pairs) (at nodes.now) result query.now
-        × StopsAt (at nodes.now) (Leaf id) start result }
+    ensures stop { IsStop P (keys_in K.bytes leaves.now.pairs) (at nodes.now) result query.now }
+    ensures at { StopsAt (at nodes.now) (Leaf id) start result }
+    ensures counted { visits.new.count ≡ visits.old.count + 1 }
 {
     let _nodes = nodes;
-    let (key, _) = leaves.read(id, &mut Visits::new());
+    let (key, _) = leaves.read(id, visits);
     let key = key.as_bytes();
     let depth = start + common_len_after(key, query, start);
     if depth == key.len() {
@@ -113,13 +141,18 @@ fn step_at<K: AsBytes, V, const P: usize>(
     start: usize,
     id: NodeId,
     query: &[u8],
+    visits: &mut Visits,
 ) -> Step
     requires { OnWay P (keys_in K.bytes leaves.now.pairs) (at nodes.now)
         (Inner id) start query.now }
-    ensures { IsStep P (keys_in K.bytes leaves.now.pairs) (at nodes.now) id start result query.now }
+    ensures step { IsStep P (keys_in K.bytes leaves.now.pairs) (at nodes.now) id start result
+        query.now }
+    ensures counted { visits.new.count
+        ≤ visits.old.count + longest (bytes K.bytes) leaves.now.pairs + 1 }
+    ensures grows { visits.old.count < visits.new.count }
 {
-    let node = nodes.read(id, &mut Visits::new());
-    let shared = shared_at(leaves, nodes, &node, start, id, query);
+    let node = nodes.read(id, visits);
+    let shared = shared_at(leaves, nodes, &node, start, id, query, visits);
     if shared.len == query.len() {
         return Step::Stops(Stop::Longer(Child::Inner(id)));
     }
@@ -143,13 +176,17 @@ fn shared_at<K: AsBytes, V, const P: usize>(
     start: usize,
     id: NodeId,
     query: &[u8],
+    visits: &mut Visits,
 ) -> Shared
     requires way { OnWay P (keys_in K.bytes leaves.now.pairs) (at nodes.now)
         (Inner id) start query.now }
     requires is { at nodes.now id ≡ Some node.now }
-    ensures { (w : OnWay P (keys_in K.bytes leaves.now.pairs) (at nodes.now)
+    ensures shared { (w : OnWay P (keys_in K.bytes leaves.now.pairs) (at nodes.now)
         (Inner id) start query.now)
         → IsShared (w.shape.front_of id) query.now result.len result.byte }
+    ensures counted { visits.new.count
+        ≤ visits.old.count + longest (bytes K.bytes) leaves.now.pairs }
+    ensures grows { visits.old.count ≤ visits.new.count }
 {
     let depth = node.depth();
     let kept = node.prefix();
@@ -164,7 +201,7 @@ fn shared_at<K: AsBytes, V, const P: usize>(
     if len == depth {
         return Shared { len, byte: 0 };
     }
-    shared_below(leaves, nodes, start, id, query)
+    shared_below(leaves, nodes, node, start, id, query, visits)
 }
 
 /// Does what `shared_at` does, by a leaf below the node.
@@ -173,22 +210,51 @@ fn shared_at<K: AsBytes, V, const P: usize>(
 fn shared_below<K: AsBytes, V, const P: usize>(
     leaves: &Leaves<K, V>,
     nodes: &Nodes<P>,
+    node: &NodeRef<'_, P>,
     start: usize,
     id: NodeId,
     query: &[u8],
+    visits: &mut Visits,
 ) -> Shared
-    requires { OnWay P (keys_in K.bytes leaves.now.pairs) (at nodes.now)
+    requires way { OnWay P (keys_in K.bytes leaves.now.pairs) (at nodes.now)
         (Inner id) start query.now }
-    ensures { (w : OnWay P (keys_in K.bytes leaves.now.pairs) (at nodes.now)
+    requires is { at nodes.now id ≡ Some node.now }
+    ensures shared { (w : OnWay P (keys_in K.bytes leaves.now.pairs) (at nodes.now)
         (Inner id) start query.now)
         → IsShared (w.shape.front_of id) query.now result.len result.byte }
+    ensures counted { visits.new.count
+        ≤ visits.old.count + longest (bytes K.bytes) leaves.now.pairs }
+    ensures grows { visits.old.count ≤ visits.new.count }
 {
-    let mut visits = Visits::new();
-    let depth = nodes.read(id, &mut visits).depth();
-    let leaf = end_under(nodes, &Child::Inner(id), true, &mut visits);
-    let (key, _) = leaves.read(leaf, &mut visits);
+    let depth = node.depth();
+    let leaf = end_under(nodes, &node.end_edge(true).to, true, visits);
+    let (key, _) = leaves.read(leaf, visits);
     let front = &key.as_bytes()[..depth];
     let len = start + common_len_after(front, query, start);
     let byte = if len < depth { front[len] } else { 0 };
     Shared { len, byte }
+}
+
+/// Returns the edge beside a byte that a node lacks, and `true` if the byte is after it. Of two
+/// such edges it returns the one before the byte, since keys that come in ascending order have none
+/// after.
+pub(crate) fn edge_beside<const P: usize>(
+    nodes: &Nodes<P>,
+    id: &NodeId,
+    byte: u8,
+    visits: &mut Visits,
+) -> (Edge, bool)
+    requires { (keys : ℕ → Option Bytes) × (q : Bytes)
+        × LeavesAtNode P keys (at nodes.now) id.now byte q }
+    ensures edge { IsEdgeBeside (at nodes.now) id.now byte result.0 result.1 }
+    ensures counted { visits.new.count ≡ visits.old.count + 1 }
+{
+    let node = nodes.read(*id, visits);
+    if let Some(before) = node.edge_before(byte) {
+        return (before, true);
+    }
+    match node.edge_after(byte) {
+        Some(after) => (after, false),
+        None => unreachable!(),
+    }
 }

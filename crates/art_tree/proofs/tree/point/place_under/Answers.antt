@@ -1,6 +1,6 @@
 use Rattle.std.proofs.Common.{Bool, lit<, subst}
 use Rattle.art_tree.specs.Places.{IsBeside}
-use Rattle.art_tree.specs.Calls.Partings.{beside_leaf}
+use Rattle.art_tree.specs.Calls.Stops.{beside_leaf}
 use Rattle.art_tree.proofs.tree.point.place_under.Goals as goal
 
 pub end_under-nearest-requires : goal.end_under-nearest-requires

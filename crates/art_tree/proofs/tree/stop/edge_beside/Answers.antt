@@ -1,8 +1,8 @@
 use Rattle.std.proofs.Common.{subst}
 use Rattle.art_kinds.specs.Edges.{IsPrevious, IsNext}
 use Rattle.art_kinds.specs.Nodes.{at}
-use Rattle.art_tree.proofs.Ways.Mismatches.{no_edge_beside}
-use Rattle.art_tree.proofs.tree.parting.edge_beside.Goals as goal
+use Rattle.art_tree.proofs.Ways.Beside.{no_edge_beside}
+use Rattle.art_tree.proofs.tree.stop.edge_beside.Goals as goal
 
 pub unreachable-requires : goal.unreachable-requires
 unreachable-requires g c =
