@@ -16,6 +16,7 @@ pub mod build;
 mod change;
 mod clone;
 pub(crate) mod descent;
+pub(crate) mod edges;
 mod free_subtree;
 mod place;
 pub mod point;

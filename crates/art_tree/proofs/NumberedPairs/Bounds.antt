@@ -1,5 +1,5 @@
 -- The place of bytes among the keys, and the ends of the pairs within a bound or with a prefix.
-use Rattle.std.proofs.Common.{◌≡◌, ℕ, ◌<◌, ◌≤◌, Bool, true, false, not, ◌&&◌, List, [], ◌∷◌, filter, length, refl, ap, arith, sym, subst, Option, option_map, Some, None, Err, ◌∙◌, ◌⊎◌, inl, inr}
+use Rattle.std.proofs.Common.{◌≡◌, ℕ, ◌<◌, Bool, true, false, not, ◌&&◌, List, [], ◌∷◌, filter, length, refl, ap, arith, sym, subst, Option, option_map, Some, None, Err, ◌∙◌, ◌⊎◌, inl, inr}
 use Rattle.std.proofs.Math.Bool.{and-true}
 use Rattle.std.proofs.lemmas.Bool.{false≢true, false_from_ne_true, and_from, and_parts, not-true, not_from_false}
 use Rattle.std.proofs.lemmas.Bool.Decides.{eqb_tells}

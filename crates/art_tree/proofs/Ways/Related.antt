@@ -1,5 +1,5 @@
 -- A key and a query of which one is a prefix of the other.
-use Rattle.std.proofs.Common.{◌≡◌, ◌≢◌, ℕ, ◌<◌, ◌≤◌, refl, true, false, ◌⊎◌, inl, inr, length, ap, sym, subst, ◌∙◌, Option, Some, arith}
+use Rattle.std.proofs.Common.{◌≡◌, ◌≢◌, ℕ, refl, true, false, ◌⊎◌, inl, inr, length, ap, sym, subst, ◌∙◌, Option, Some, arith}
 use Rattle.std.proofs.lemmas.Bool.{cases_lt, false≢true}
 use Rattle.std.proofs.lemmas.Bool.Decides.{eqb_tells}
 use Rattle.blart_keys.specs.Bytes.{related, common}

@@ -1,7 +1,6 @@
 -- The keys that begin with a query, and the edge above them.
 use Rattle.std.proofs.Common.{◌≡◌, ℕ, ◌<◌, ◌≤◌, inr, true, false, length, ap, sym, subst, ◌∙◌, Option, Some, None, arith}
 use Rattle.std.proofs.lemmas.Bool.{false≢true}
-use Rattle.blart_keys.specs.Bytes.{related}
 use Rattle.blart_keys.proofs.Options.{some_of}
 use Rattle.art_tree.specs.Begins.{Bytes, Begins}
 use Rattle.art_tree.specs.Invariant.EdgesAbove.{LeadsTo, edge_front}

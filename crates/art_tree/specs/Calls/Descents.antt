@@ -1,9 +1,8 @@
 -- What descents in a tree find.
-use Rattle.std.specs.Prelude.{◌≡◌, ◌≢◌, ℕ, Bool, true, false, ◌+◌, ◌<◌, ◌≤◌, ◌⊎◌, length, slice_index, List, Option, Some, None, IsSome}
-use Rattle.blart_keys.specs.Bytes.{common, PartsBelow}
+use Rattle.std.specs.Prelude.{◌≡◌, ◌≢◌, ℕ, Bool, true, false, ◌+◌, ◌<◌, ◌≤◌, ◌⊎◌, length, List, Option, Some, None, IsSome}
+use Rattle.blart_keys.specs.Bytes.{PartsBelow}
 use Rattle.art_tree.specs.Begins.{Bytes, Begins}
 use Rattle.art_tree.specs.Leaves.{Numbered, leaf_in, keys_in}
-use Rattle.art_kinds.specs.Edges.{child_at}
 use Rattle.art_kinds.specs.Nodes.{Node}
 use Rattle.art_tree.specs.Invariant.Shape.{Shape, Covers}
 use Rattle.art_kinds.specs.declared.records.ids.Child.{Child}

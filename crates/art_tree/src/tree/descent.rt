@@ -7,11 +7,9 @@ ghost use Rattle.art_tree.specs.Calls.Descents.{IsSubtree, IsRoot, IsWayOf, Find
 ghost use Rattle.art_tree.specs.Calls.Spots.{SpotFits};
 ghost use Rattle.art_kinds.specs.declared.records.ids.Child.{Child as Way};
 
+use crate::tree::edges::EdgeAbove;
 use art_kinds::{Child, NodeId, Nodes};
 use art_slots::{LeafId, Visits};
-
-/// The edge above a child: the number of a node, and a byte. It is `None` for the root.
-pub(crate) type EdgeAbove = Option<(NodeId, u8)>;
 
 /// A place in the tree where some bytes may leave the keys.
 #[derive(Clone, Copy)]
@@ -45,14 +43,6 @@ impl Spot {
             Spot::Edge(above, _) => *above,
         }
     }
-}
-
-/// A leaf, the edge to it, and the edge above the node of that edge.
-#[derive(Clone, Copy)]
-pub(crate) struct LeafSpot {
-    pub(crate) id: LeafId,
-    pub(crate) edge: EdgeAbove,
-    pub(crate) above: EdgeAbove,
 }
 
 /// The part of a tree that has the pairs with some prefix: the edge above it, the child at its top,

@@ -10,8 +10,7 @@ ghost use Rattle.art_tree.specs.Calls.Pruning.{Prunes, FreesSubtree, Loose, Lead
 ghost use Rattle.art_kinds.specs.Nodes.{Node, at, live};
 ghost use Rattle.art_kinds.specs.declared.records.ids.Child.{Child as Way};
 
-use crate::tree::descent::EdgeAbove;
-use crate::tree::place::lead;
+use crate::tree::edges::{EdgeAbove, redirect};
 use art_kinds::{Child, NodeId, Nodes};
 use art_slots::{LeafId, Visits};
 
@@ -33,7 +32,7 @@ pub(crate) fn free_subtree<const P: usize>(
         → Shape P keys' (at nodes.new) (Some result) }
 {
     free_child(nodes, child);
-    lead(nodes, root, above, &Child::Leaf(*leaf))
+    redirect(nodes, root, above, &Child::Leaf(*leaf))
 }
 
 /// Frees a child and the nodes below it, if it is a node.

@@ -1,20 +1,20 @@
 //! Placements of pairs.
-ghost use Rattle.std.specs.Prelude.{◌≡◌, ◌≢◌, ◌+◌, ◌-◌, ◌^◌, ◌<◌, ◌≤◌, [], length, take, slice_range, slice_index_or, true, Option, Some, IfSome};
+ghost use Rattle.std.specs.Prelude.{◌≡◌, ◌≢◌, ◌+◌, ◌-◌, ◌<◌, ◌≤◌, [], length, take, slice_range, slice_index_or, true, Option, Some, IfSome};
 ghost use Rattle.art_tree.specs.Begins.{Bytes};
 ghost use Rattle.art_tree.specs.Invariant.Shape.{Shape};
 ghost use Rattle.art_tree.specs.Calls.Spots.{SpotFits};
-ghost use Rattle.art_tree.specs.Invariant.EdgesAbove.{LeadsTo, TurnsTo, AscendsAt};
+ghost use Rattle.art_tree.specs.Invariant.EdgesAbove.{LeadsTo};
 ghost use Rattle.art_tree.specs.Content.{Fits, IsOpen, room as places};
 ghost use Rattle.art_tree.specs.Calls.Placing.{IsSpotFor, HasNearest, IsShown, IsShownIn, IsOverLeaf, IsToJoin, TreeGains, Forks, DepthWithin, KeepsFrom, PutsPair, content_of};
 ghost use Rattle.art_kinds.specs.Nodes.{at, room, FitsNew, SameSpares};
 ghost use Rattle.art_tree.specs.Leaves.{keys_in, room as leaves_room};
-ghost use Rattle.art_tree.specs.Calls.Removing.{StartsBelow, EndsBelow, Cuts};
+ghost use Rattle.art_tree.specs.Calls.Removing.{EndsBelow, Cuts};
 ghost use Rattle.art_tree.specs.Points.{IsFree, IsGood};
 ghost use Rattle.art_tree.specs.Invariant.Sound.{IsSound};
-ghost use Rattle.art_kinds.specs.declared.records.ids.Child.{Child as Way};
 ghost use Rattle.art_kinds.specs.declared.records.ids.Child.TheVariants.{Inner};
 
-use crate::tree::descent::{EdgeAbove, Spot, locate};
+use crate::tree::descent::{Spot, locate};
+use crate::tree::edges::{EdgeAbove, redirect, redirect_moved, start_below};
 use crate::tree::point::{Place, Point, leaf_before};
 use art_kinds::{Child, Edge, NodeId, Nodes};
 use art_rows::{Leaves, Position};
@@ -268,30 +268,9 @@ fn add_at_node<const P: usize>(
     ensures room { room nodes.old ≤ room nodes.new + 1 }
 {
     let wide = nodes.widen(*node);
-    let top = follow(nodes, root, above, *node, wide);
+    let top = redirect_moved(nodes, root, above, *node, wide);
     nodes.add_edge(wide, leaf.key[leaf.depth], Child::Leaf(leaf.id));
     top
-}
-
-/// Redirects the edge above a node to the node's number, if the number has changed. Returns the
-/// root.
-fn follow<const P: usize>(
-    nodes: &mut Nodes<P>,
-    root: &Child,
-    above: &EdgeAbove,
-    node: NodeId,
-    now: NodeId,
-) -> Child
-    requires leads { LeadsTo (at nodes.old) (Some root.now) above.now (Inner node) }
-    requires ascends { AscendsAt (at nodes.old) above.now }
-    ensures turned { TurnsTo (at nodes.old) (at nodes.new) (Some root.now) (Some result)
-        above.now (Inner now) }
-    ensures spares { SameSpares nodes.old nodes.new }
-{
-    if now == node {
-        return *root;
-    }
-    lead(nodes, root, above, &Child::Inner(now))
 }
 
 /// Adds a leaf at an edge where its key leaves those below, under a new node. Returns the root.
@@ -321,28 +300,7 @@ fn add_at_edge<const P: usize>(
     };
     let other = Edge { byte, to: *child };
     let made = fork(nodes, depth, &leaf.key[start..depth], &own, &other);
-    lead(nodes, root, above, &Child::Inner(made))
-}
-
-/// Redirects the edge above a child to another child. Returns the root.
-pub(crate) fn lead<const P: usize>(
-    nodes: &mut Nodes<P>,
-    root: &Child,
-    above: &EdgeAbove,
-    to: &Child,
-) -> Child
-    requires { (child : Way) × LeadsTo (at nodes.old) (Some root.now) above.now child }
-    ensures turned { TurnsTo (at nodes.old) (at nodes.new) (Some root.now) (Some result)
-        above.now to.now }
-    ensures spares { SameSpares nodes.old nodes.new }
-{
-    match above {
-        None => *to,
-        Some((parent, byte)) => {
-            nodes.redirect(*parent, *byte, *to);
-            *root
-        }
-    }
+    redirect(nodes, root, above, &Child::Inner(made))
 }
 
 /// Makes a node with two edges.
@@ -363,17 +321,6 @@ fn fork<const P: usize>(
         nodes.new_node(depth, prefix, *one, *other)
     } else {
         nodes.new_node(depth, prefix, *other, *one)
-    }
-}
-
-/// Returns the depth at which the compressed prefix below an edge begins.
-fn start_below<const P: usize>(nodes: &Nodes<P>, above: &EdgeAbove) -> usize
-    requires { EndsBelow (at nodes.now) above.now (2 ^ 64 - 1) }
-    ensures { StartsBelow (at nodes.now) above.now result }
-{
-    match above {
-        None => 0,
-        Some((parent, _)) => nodes.read(*parent, &mut Visits::new()).depth() + 1,
     }
 }
 

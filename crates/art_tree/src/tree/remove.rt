@@ -13,8 +13,7 @@ ghost use Rattle.art_kinds.specs.declared.records.ids.Child.{Child as Way};
 ghost use Rattle.art_kinds.specs.declared.records.ids.Child.TheVariants.{Leaf, Inner};
 
 use crate::tree::Tree;
-use crate::tree::descent::{EdgeAbove, LeafSpot};
-use crate::tree::place::lead;
+use crate::tree::edges::{EdgeAbove, LeafSpot, redirect};
 use crate::tree::search::pair_toward;
 use art_kinds::{Child, Edge, NodeId, Nodes};
 use art_rows::{Leaves, Position};
@@ -196,7 +195,7 @@ fn shrink<const P: usize>(
 {
     nodes.remove_edge(*node, byte);
     let moved = nodes.narrow(*node);
-    lead(nodes, root, above, &Child::Inner(moved))
+    redirect(nodes, root, above, &Child::Inner(moved))
 }
 
 /// Removes a node, and redirects the edge above it to this child. Returns the root.
@@ -212,7 +211,7 @@ fn merge<const P: usize>(
     ensures { Merged (at nodes.old) (at nodes.new) (Some root.now) (Some result)
         above.now node.now to.now }
 {
-    let root = lead(nodes, root, above, to);
+    let root = redirect(nodes, root, above, to);
     nodes.free(*node);
     root
 }

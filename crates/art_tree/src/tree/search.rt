@@ -11,7 +11,7 @@ ghost use Rattle.art_tree.specs.Invariant.Sound.{IsSound};
 
 use crate::lists::begins;
 use crate::tree::Tree;
-use crate::tree::descent::LeafSpot;
+use crate::tree::edges::LeafSpot;
 use art_kinds::{Child, Nodes};
 use art_rows::Leaves;
 use art_slots::{LeafId, Visits};

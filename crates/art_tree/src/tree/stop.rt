@@ -10,7 +10,8 @@ ghost use Rattle.art_tree.specs.Invariant.Sound.{IsSound};
 ghost use Rattle.art_kinds.specs.declared.records.ids.Child.TheVariants.{Leaf, Inner};
 
 use crate::lists::{common_len, common_len_after};
-use crate::tree::descent::{EdgeAbove, end_under};
+use crate::tree::descent::end_under;
+use crate::tree::edges::EdgeAbove;
 use art_kinds::{Child, Edge, NodeId, NodeRef, Nodes};
 use art_rows::Leaves;
 use art_slots::{LeafId, Visits};

@@ -6,8 +6,8 @@ use Rattle.art_tree.proofs.tree.free_subtree.free_subtree.Goals as goal
 pub free_child-requires : goal.free_child-requires
 free_child-requires g c = let r = c.requires in (lit< tt, (r.0, Some c.args.root.now, c.args.above.now, r.1, r.2))
 
-pub lead-requires : goal.lead-requires
-lead-requires g c =
+pub redirect-requires : goal.redirect-requires
+redirect-requires g c =
     let r = c.requires in
     let root = Some c.args.root.now in
     let above = c.args.above.now in
@@ -17,5 +17,5 @@ pub returns : goal.returns
 returns g c = λ keys keys' s k leads prunes.
     let root = Some c.args.root.now in
     let above = c.args.above.now in
-    shape_led keys (at c.args.nodes.now) (at c.free_child.new.nodes) root s c.args.child.now keys' (at c.lead.new.nodes) (Some c.lead.result) c.args.leaf.now k above leads (c.free_child.ensures keys root above s leads) c.lead.ensures.turned
+    shape_led keys (at c.args.nodes.now) (at c.free_child.new.nodes) root s c.args.child.now keys' (at c.redirect.new.nodes) (Some c.redirect.result) c.args.leaf.now k above leads (c.free_child.ensures keys root above s leads) c.redirect.ensures.turned
     prunes

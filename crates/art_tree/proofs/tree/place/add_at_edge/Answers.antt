@@ -30,15 +30,15 @@ fork-made-requires g c =
     let apart = bytes_apart j.keys j.leaf c.args.leaf.now.depth c.args.leaf.now.key.now j.leaves c.args.nearest.now j.is in
     (lit< tt, (omega arith, rw c.byte_on-byte.ensures apart))
 
-pub lead-requires : goal.lead-requires
-lead-requires g c =
+pub redirect-requires : goal.redirect-requires
+redirect-requires g c =
     let j = c.requires.spot_fits in
     (lit< tt, (c.args.child.now, leads_forked j.keys j.leaf c.args.leaf.now.depth c.args.leaf.now.key.now j.leaves c.args.nearest.now j.is (at c.args.nodes.now) (Some c.args.root.now) j.shape c.args.above.now c.args.child.now j.fits.0 j.fits.1 (at c.cut_prefix.new.nodes) c.cut_prefix.ensures.cut (at c.fork-made.new.nodes) c.fork-made.result _ _ _ c.fork-made.ensures.made))
 
 pub returns-clause-gains : goal.returns-clause-gains
 returns-clause-gains g c keys keys' s leaf is leaves fits gains =
     edge_gains keys leaf c.args.leaf.now.depth c.args.leaf.now.key.now leaves c.args.nearest.now is (at c.args.nodes.now) (Some c.args.root.now) s c.args.above.now c.args.child.now fits.0 fits.1 (at c.cut_prefix.new.nodes) c.cut_prefix.ensures.cut
-    keys' c.args.leaf.now.id (at c.fork-made.new.nodes) (at c.lead.new.nodes) (Some c.lead.result) c.fork-made.result c.start_below-start.result gains c.start_below-start.ensures (rw (← c.byte_on-byte.ensures) c.fork-made.ensures.made) c.lead.ensures.turned
+    keys' c.args.leaf.now.id (at c.fork-made.new.nodes) (at c.redirect.new.nodes) (Some c.redirect.result) c.fork-made.result c.start_below-start.result gains c.start_below-start.ensures (rw (← c.byte_on-byte.ensures) c.fork-made.ensures.made) c.redirect.ensures.turned
 
 pub slice_bounds-fork-count : goal.slice_bounds-fork-count
 slice_bounds-fork-count g c =
@@ -55,4 +55,4 @@ slice_bounds-fork-start g c =
     omega arith
 
 pub returns-clause-room : goal.returns-clause-room
-returns-clause-room g c = omega (arith, room-same c.args.nodes.now c.cut_prefix.new.nodes c.cut_prefix.ensures.spares, c.fork-made.ensures.room, room-same c.fork-made.new.nodes c.lead.new.nodes c.lead.ensures.spares)
+returns-clause-room g c = omega (arith, room-same c.args.nodes.now c.cut_prefix.new.nodes c.cut_prefix.ensures.spares, c.fork-made.ensures.room, room-same c.fork-made.new.nodes c.redirect.new.nodes c.redirect.ensures.spares)

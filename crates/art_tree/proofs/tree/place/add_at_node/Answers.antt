@@ -13,8 +13,8 @@ widen-wide-requires g c =
     let j = c.requires.spot_fits.1 in
     (lit< tt, ((covers_above j.keys (at c.args.nodes.now) (Some c.args.root.now) j.shape c.args.above.now (Inner c.args.node.now) j.fits.0.leads).live, fits_more c.args.nodes.now c.args.node.now (let r = c.requires.fits in omega arith)))
 
-pub follow-top-requires : goal.follow-top-requires
-follow-top-requires g c =
+pub redirect_moved-top-requires : goal.redirect_moved-top-requires
+redirect_moved-top-requires g c =
     let j = c.requires.spot_fits.1 in (
       lit< tt,
       (
@@ -28,19 +28,19 @@ add_edge-requires g c =
     let j = c.requires.spot_fits.1 in (
       lit< tt,
       (
-        place_led c.widen-wide.new.self c.follow-top.new.nodes (Some c.args.root.now) (Some c.follow-top.result) c.args.above.now (Inner c.widen-wide.result) c.widen-wide.result c.follow-top.ensures.turned c.widen-wide.ensures.place,
-        wide_absent j.keys j.leaf c.args.leaf.now.depth c.args.leaf.now.key.now j.leaves c.requires.spot_fits.0 j.is (at c.args.nodes.now) (at c.widen-wide.new.self) (at c.follow-top.new.nodes) (Some c.args.root.now) (Some c.follow-top.result) c.args.node.now c.widen-wide.result c.args.above.now j.shape j.fits.1
-            c.widen-wide.ensures.moved j.fits.0.leads c.follow-top.ensures.turned,
+        place_led c.widen-wide.new.self c.redirect_moved-top.new.nodes (Some c.args.root.now) (Some c.redirect_moved-top.result) c.args.above.now (Inner c.widen-wide.result) c.widen-wide.result c.redirect_moved-top.ensures.turned c.widen-wide.ensures.place,
+        wide_absent j.keys j.leaf c.args.leaf.now.depth c.args.leaf.now.key.now j.leaves c.requires.spot_fits.0 j.is (at c.args.nodes.now) (at c.widen-wide.new.self) (at c.redirect_moved-top.new.nodes) (Some c.args.root.now) (Some c.redirect_moved-top.result) c.args.node.now c.widen-wide.result c.args.above.now j.shape j.fits.1
+            c.widen-wide.ensures.moved j.fits.0.leads c.redirect_moved-top.ensures.turned,
       ),
     )
 
 pub returns-clause-gains : goal.returns-clause-gains
 returns-clause-gains g c nearest keys keys' s leaf is leaves fits gains =
-    placed_wide keys leaf c.args.leaf.now.depth c.args.leaf.now.key.now leaves nearest is keys' c.args.leaf.now.id gains (at c.args.nodes.now) (at c.widen-wide.new.self) (at c.follow-top.new.nodes) (at c.add_edge.new.self) (Some c.args.root.now) (Some c.follow-top.result) c.args.node.now c.widen-wide.result c.args.above.now s fits.1
-    c.widen-wide.ensures.moved fits.0.leads c.follow-top.ensures.turned c.add_edge.ensures.added
+    placed_wide keys leaf c.args.leaf.now.depth c.args.leaf.now.key.now leaves nearest is keys' c.args.leaf.now.id gains (at c.args.nodes.now) (at c.widen-wide.new.self) (at c.redirect_moved-top.new.nodes) (at c.add_edge.new.self) (Some c.args.root.now) (Some c.redirect_moved-top.result) c.args.node.now c.widen-wide.result c.args.above.now s fits.1
+    c.widen-wide.ensures.moved fits.0.leads c.redirect_moved-top.ensures.turned c.add_edge.ensures.added
 
 pub returns-clause-room : goal.returns-clause-room
 returns-clause-room g c =
     let k = c.widen-wide.result % 4 in
-    let l : Lowers k c.args.nodes.now c.follow-top.new.nodes = Lowers-same k c.args.nodes.now c.widen-wide.new.self c.follow-top.new.nodes (omega arith) c.widen-wide.ensures.spares c.follow-top.ensures.spares in
-    room-placed k (k + 1) c.args.nodes.now c.follow-top.new.nodes c.add_edge.new.self (λ e. omega (arith, e)) l c.add_edge.ensures.spares
+    let l : Lowers k c.args.nodes.now c.redirect_moved-top.new.nodes = Lowers-same k c.args.nodes.now c.widen-wide.new.self c.redirect_moved-top.new.nodes (omega arith) c.widen-wide.ensures.spares c.redirect_moved-top.ensures.spares in
+    room-placed k (k + 1) c.args.nodes.now c.redirect_moved-top.new.nodes c.add_edge.new.self (λ e. omega (arith, e)) l c.add_edge.ensures.spares

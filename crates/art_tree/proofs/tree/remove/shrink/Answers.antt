@@ -4,8 +4,8 @@ use Rattle.art_kinds.specs.declared.records.ids.Child.TheVariants.{Inner}
 use Rattle.art_tree.proofs.Calls.Unlinking.{leads_narrowed, shape_shrunk}
 use Rattle.art_tree.proofs.tree.remove.shrink.Goals as goal
 
-pub lead-requires : goal.lead-requires
-lead-requires g c =
+pub redirect-requires : goal.redirect-requires
+redirect-requires g c =
     let r = c.requires in (
       lit< tt,
       (
@@ -16,4 +16,4 @@ lead-requires g c =
 
 pub returns : goal.returns
 returns g c = λ keys keys' i h more loses.
-    shape_shrunk keys (at c.args.nodes.now) (at c.remove_edge.new.self) (at c.narrow-moved.new.self) (Some c.args.root.now) c.args.above.now c.args.node.now c.narrow-moved.result c.args.byte i c.remove_edge.ensures.removed c.narrow-moved.ensures.moved keys' (at c.lead.new.nodes) (Some c.lead.result) h more loses c.lead.ensures.turned
+    shape_shrunk keys (at c.args.nodes.now) (at c.remove_edge.new.self) (at c.narrow-moved.new.self) (Some c.args.root.now) c.args.above.now c.args.node.now c.narrow-moved.result c.args.byte i c.remove_edge.ensures.removed c.narrow-moved.ensures.moved keys' (at c.redirect.new.nodes) (Some c.redirect.result) h more loses c.redirect.ensures.turned

@@ -1,4 +1,4 @@
-use Rattle.std.proofs.Common.{Bool, Some, length, lit<, subst, refl, arith}
+use Rattle.std.proofs.Common.{Bool, lit<, subst, refl, arith}
 use Rattle.art_tree.specs.Places.{IsBeside}
 use Rattle.art_tree.specs.Calls.Stops.{beside_leaf}
 use Rattle.art_tree.specs.Leaves.{keys_in}

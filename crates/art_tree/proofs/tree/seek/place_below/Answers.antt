@@ -1,4 +1,4 @@
-use Rattle.std.proofs.Common.{length, lit<, subst, refl, arith, Some}
+use Rattle.std.proofs.Common.{lit<, subst, refl, arith, Some}
 use Rattle.art_tree.specs.Leaves.{keys_in}
 use Rattle.art_tree.specs.Calls.Stops.{IsStop}
 use Rattle.art_tree.specs.declared.tree.stop.Stop.{Stop}

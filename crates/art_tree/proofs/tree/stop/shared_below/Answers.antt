@@ -2,7 +2,6 @@ use Rattle.std.proofs.Common.{◌≡◌, ◌+◌, ◌≤◌, ℕ, length, drop, 
 use Rattle.blart_keys.specs.Bytes.{common}
 use Rattle.art_tree.specs.Begins.{Bytes}
 use Rattle.art_tree.specs.Leaves.{keys_in}
-use Rattle.art_tree.specs.Invariant.EdgesAbove.{edge_front}
 use Rattle.std.proofs.lemmas.List.{length-take-le}
 use Rattle.art_tree.proofs.BeginsLemmas.{common-in_left}
 use Rattle.art_tree.proofs.NumberedPairs.Keys.{has_key, key_read}

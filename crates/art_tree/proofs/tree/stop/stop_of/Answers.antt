@@ -1,4 +1,4 @@
-use Rattle.std.proofs.Common.{◌*◌, ◌+◌, ◌≤◌, length, lit<, refl, subst, Some, None, arith}
+use Rattle.std.proofs.Common.{◌+◌, length, lit<, refl, subst, Some, None, arith}
 use Rattle.std.proofs.Math.Nat.{mul-le-mul_right}
 use Rattle.art_tree.specs.Calls.Stops.{OnWay}
 use Rattle.art_tree.specs.Leaves.{keys_in, bytes}
