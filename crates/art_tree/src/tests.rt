@@ -6,6 +6,7 @@ use crate::tree::Tree;
 use crate::tree::build::Frame;
 use crate::tree::descent::Spot;
 use crate::tree::point::{Beside, Place, Point};
+use crate::tree::skeleton::Skeleton;
 use crate::walk::Walk;
 use art_kinds::{Child, NodeRef, Nodes};
 use art_slots::Visits;
@@ -150,8 +151,7 @@ fn a_tree_taken_apart(rt: HostRuntime) {
     assert_walk(&rt, &tree);
     let Tree {
         leaves,
-        nodes,
-        root,
+        skeleton: Skeleton { nodes, root },
     } = tree;
     assert_all(&rt, &nodes, root, &numbers);
     let (live, len) = (nodes.live(), leaves.len());

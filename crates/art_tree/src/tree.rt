@@ -16,7 +16,6 @@ pub mod build;
 mod change;
 mod clone;
 pub(crate) mod descent;
-pub(crate) mod edges;
 mod free_subtree;
 mod place;
 pub mod point;
@@ -24,6 +23,7 @@ mod prefix;
 mod remove;
 mod search;
 mod seek;
+pub(crate) mod skeleton;
 pub(crate) mod stop;
 
 use crate::lists::begins;
@@ -31,6 +31,7 @@ use crate::tree::add::make_room_beside;
 use crate::tree::descent::children_of;
 use crate::tree::place::place_at;
 use crate::tree::point::{Point, point_below};
+use crate::tree::skeleton::Skeleton;
 use art_kinds::{Child, Nodes};
 use art_rows::{Leaves, Position};
 use art_slots::{LeafId, Visits};
@@ -52,8 +53,7 @@ pub const DEFAULT_PREFIX_LEN: usize = 16;
 #[derive(Drop)]
 pub struct Tree<K: AsBytes, V, const PREFIX_LEN: usize> {
     pub(crate) leaves: Leaves<K, V>,
-    pub(crate) nodes: Nodes<PREFIX_LEN>,
-    pub(crate) root: Option<Child>,
+    pub(crate) skeleton: Skeleton<PREFIX_LEN>,
 }
 
 impl<K: AsBytes, V, const PREFIX_LEN: usize> Model for Tree<K, V, PREFIX_LEN> {
@@ -69,10 +69,10 @@ impl<K: AsBytes, V, const PREFIX_LEN: usize> Model for Tree<K, V, PREFIX_LEN> {
 
     ghost view = { λ t. record {
       pairs = t.leaves.pairs;
-      spares = record { leaves = leaves_room t.leaves; nodes = room t.nodes };
+      spares = record { leaves = leaves_room t.leaves; nodes = room t.skeleton.nodes };
     } };
 
-    ghost invariant = { λ t. IsSound K.bytes PREFIX_LEN t.leaves t.nodes t.root };
+    ghost invariant = { λ t. IsSound K.bytes PREFIX_LEN t.leaves t.skeleton.nodes t.skeleton.root };
 }
 
 impl<K: AsBytes, V, const PREFIX_LEN: usize> Tree<K, V, PREFIX_LEN> {
@@ -85,8 +85,10 @@ impl<K: AsBytes, V, const PREFIX_LEN: usize> Tree<K, V, PREFIX_LEN> {
     {
         Tree {
             leaves: Leaves::new(alloc),
-            nodes: Nodes::new(alloc),
-            root: None,
+            skeleton: Skeleton {
+                nodes: Nodes::new(alloc),
+                root: None,
+            },
         }
     }
 
@@ -203,9 +205,9 @@ impl<K: AsBytes, V, const PREFIX_LEN: usize> Tree<K, V, PREFIX_LEN> {
     pub fn point(&self, query: &[u8]) -> Point
         ensures { IsGood K.bytes self.now.pairs result query.now }
     {
-        match self.root {
+        match self.skeleton.root {
             None => Point::Empty,
-            Some(root) => point_below(&self.leaves, &self.nodes, &root, query),
+            Some(root) => point_below(&self.leaves, &self.skeleton.nodes, &root, query),
         }
     }
 
@@ -218,7 +220,7 @@ impl<K: AsBytes, V, const PREFIX_LEN: usize> Tree<K, V, PREFIX_LEN> {
         ensures fewer { result ≤ length self.now.pairs - 1 }
     {
         self.leaves.law();
-        self.nodes.live()
+        self.skeleton.nodes.live()
     }
 
     /// Returns the number of children of the inner node at this prefix, or 0 if there is no such
@@ -234,9 +236,11 @@ impl<K: AsBytes, V, const PREFIX_LEN: usize> Tree<K, V, PREFIX_LEN> {
         ensures some_counted { 0 < result → visits.old.count < visits.new.count }
     {
         self.leaves.law();
-        match self.root {
+        match self.skeleton.root {
             None => 0,
-            Some(root) => children_below(&self.leaves, &self.nodes, &root, front, visits),
+            Some(root) => {
+                children_below(&self.leaves, &self.skeleton.nodes, &root, front, visits)
+            }
         }
     }
 }
@@ -255,7 +259,7 @@ impl<K: AsBytes + Drop, V: Drop, const PREFIX_LEN: usize> Tree<K, V, PREFIX_LEN>
         match point {
             Point::Exact(_) | Point::Related { .. } => Ok(()),
             Point::Empty => self.leaves.reserve(1),
-            Point::Free(_) => make_room_beside(&mut self.leaves, &mut self.nodes),
+            Point::Free(_) => make_room_beside(&mut self.leaves, &mut self.skeleton.nodes),
         }
     }
 
@@ -276,16 +280,7 @@ impl<K: AsBytes + Drop, V: Drop, const PREFIX_LEN: usize> Tree<K, V, PREFIX_LEN>
         ensures others { OthersStand self.old.pairs self.new.pairs result }
         ensures room { room self.old ≤ room self.new + 1 }
     {
-        let (id, root) = place_at(
-            &mut self.leaves,
-            &mut self.nodes,
-            &self.root,
-            &point,
-            key,
-            value,
-        );
-        self.root = Some(root);
-        id
+        place_at(&mut self.leaves, &mut self.skeleton, &point, key, value)
     }
 }
 

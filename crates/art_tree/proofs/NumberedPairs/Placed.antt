@@ -37,7 +37,7 @@ no_root keys nodes (Some c) s none =
     absurd cc
 
 -- a spot that is right for all keys is right for these
-pub shown_rest : (P : ℕ) (nodes : ℕ → Option Node) (root : Child) (place : Place) (keys : ℕ → Option Bytes) (shown : Option Spot) → IfSome shown (IsShown P nodes root place) → IfSome shown (IsShownIn P keys nodes root place.nearest place.depth)
+pub shown_rest : (P : ℕ) (nodes : ℕ → Option Node) (root : Option Child) (place : Place) (keys : ℕ → Option Bytes) (shown : Option Spot) → IfSome shown (IsShown P nodes root place) → IfSome shown (IsShownIn P keys nodes root place.nearest place.depth)
 shown_rest P nodes root place keys None h = tt
 shown_rest P nodes root place keys (Some spot) h = h keys
 
@@ -99,7 +99,7 @@ module _ {K V : Type 0} (key_bytes : K → Bytes) where
   has_beside pairs q (BeforeLeaf i) st = has_key key_bytes pairs i st.key st.is
 
   -- the new leaf is to be added to the tree
-  pub joins : {P : ℕ} → (leaves : Leaves K V) (nodes : Nodes) (root : Child) (new : List (Numbered K V)) (nearest depth : ℕ) (shown : Option Spot) (i : ℕ) (x : K × V) → IsSound key_bytes P leaves nodes (Some root) → LeavesNearest (keys_in key_bytes leaves.pairs) nearest depth (key_bytes x.0)
+  pub joins : {P : ℕ} → (leaves : Leaves K V) (nodes : Nodes) (root : Option Child) (new : List (Numbered K V)) (nearest depth : ℕ) (shown : Option Spot) (i : ℕ) (x : K × V) → IsSound key_bytes P leaves nodes root → LeavesNearest (keys_in key_bytes leaves.pairs) nearest depth (key_bytes x.0)
       → IfSome shown (IsShownIn P (keys_in key_bytes leaves.pairs) (at nodes) root nearest depth) → PutsPair key_bytes leaves.pairs new i x → IsToJoin P (keys_in key_bytes new) (at nodes) root nearest depth shown i
   joins leaves nodes root new nearest depth shown i x sound good known p = record {
     rest = keys_in key_bytes leaves.pairs;
@@ -110,7 +110,7 @@ module _ {K V : Type 0} (key_bytes : K → Bytes) where
     known = known;
   }
 
-module _ {P : ℕ} (keys : ℕ → Option Bytes) (nodes : ℕ → Option Node) (root : Child) (nearest depth : ℕ) (shown : Option Spot) (i : ℕ) (new : IsToJoin P keys nodes root nearest depth shown i) where
+module _ {P : ℕ} (keys : ℕ → Option Bytes) (nodes : ℕ → Option Node) (root : Option Child) (nearest depth : ℕ) (shown : Option Spot) (i : ℕ) (new : IsToJoin P keys nodes root nearest depth shown i) where
   -- the nearest leaf is not the new one
   another : nearest ≢ i
   another e = let a : new.rest i ≡ Some new.leaves.nearest_key = ap new.rest (sym e) ∙ new.leaves.nearest_is in let b : new.rest i ≡ None = new.gains.fresh in let z : None ≡ Some new.leaves.nearest_key = sym b ∙ a in cc
@@ -131,11 +131,11 @@ module _ {P : ℕ} (keys : ℕ → Option Bytes) (nodes : ℕ → Option Node) (
     pub leaves_near : LeavesNearest new.rest nearest depth k
     leaves_near = subst (λ (k : Bytes). LeavesNearest new.rest nearest depth k) own_key new.leaves
 
-    module _ (spot : Spot) (fits : SpotFits nodes (Some root) new.shape.front_of m depth spot) where
+    module _ (spot : Spot) (fits : SpotFits nodes root new.shape.front_of m depth spot) where
       -- the spot that was found is right
       pub new_spot : IsSpotFor P nodes root spot k m depth
       new_spot = record { keys = new.rest; shape = new.shape; leaf = nearest; is = near_rest; leaves = leaves_near; fits = fits }
 
       -- and once the leaf is added there, the tree has the key
-      pub new_shape : (nodes' : ℕ → Option Node) (root' : Child) → TreeGains P nodes nodes' root root' spot k m depth i → Shape P keys nodes' (Some root')
+      pub new_shape : (nodes' : ℕ → Option Node) (root' : Option Child) → TreeGains P nodes nodes' root root' spot k m depth i → Shape P keys nodes' root'
       new_shape nodes' root' joined = joined new.rest keys new.shape nearest near_rest leaves_near fits (subst (λ (k : Bytes). Gains new.rest keys i k) own_key new.gains)

@@ -24,22 +24,22 @@ pub record Gains (old new : ℕ → Option Bytes) (i : ℕ) (k : Bytes) : Type 0
   pub others : (j : ℕ) → j ≢ i → new j ≡ old j
 
 -- in some tree with this root, the key leaves the nearest stored key at the spot
-pub record IsSpotFor (P : ℕ) (nodes : ℕ → Option Node) (root : Child) (spot : Spot) (key nearest : Bytes) (depth : ℕ) : Type 0 where
+pub record IsSpotFor (P : ℕ) (nodes : ℕ → Option Node) (root : Option Child) (spot : Spot) (key nearest : Bytes) (depth : ℕ) : Type 0 where
   pub keys : ℕ → Option Bytes
-  pub shape : Shape P keys nodes (Some root)
+  pub shape : Shape P keys nodes root
   pub leaf : ℕ
   pub is : keys leaf ≡ Some nearest
   pub leaves : LeavesNearest keys leaf depth key
-  pub fits : SpotFits nodes (Some root) shape.front_of nearest depth spot
+  pub fits : SpotFits nodes root shape.front_of nearest depth spot
 
 -- in each tree of these keys, a key that leaves the nearest one at this depth does so at the spot
-abbrev pub IsShownIn : ℕ → (ℕ → Option Bytes) → (ℕ → Option Node) → Child → ℕ → ℕ → Spot → Type 0
+abbrev pub IsShownIn : ℕ → (ℕ → Option Bytes) → (ℕ → Option Node) → Option Child → ℕ → ℕ → Spot → Type 0
 IsShownIn P keys nodes root nearest depth spot =
-    (s : Shape P keys nodes (Some root)) (key : Bytes) → keys nearest ≡ Some key → depth ≤ length key
-    → SpotFits nodes (Some root) s.front_of key depth spot
+    (s : Shape P keys nodes root) (key : Bytes) → keys nearest ≡ Some key → depth ≤ length key
+    → SpotFits nodes root s.front_of key depth spot
 
 -- the same holds in each tree with this root
-abbrev pub IsShown : ℕ → (ℕ → Option Node) → Child → Place → Spot → Type 0
+abbrev pub IsShown : ℕ → (ℕ → Option Node) → Option Child → Place → Spot → Type 0
 IsShown P nodes root place spot = (keys : ℕ → Option Bytes) → IsShownIn P keys nodes root place.nearest place.depth spot
 
 -- if the point is free, this is true of its place
@@ -50,9 +50,9 @@ IfFree (Related first last) T = Unit {0}
 IfFree (Free place) T = T place
 
 -- in some tree, this is the key of the place's nearest leaf, and the spot is right if it is known
-pub record HasNearest (P : ℕ) (nodes : ℕ → Option Node) (root : Child) (place : Place) (shown : Option Spot) (nearest : Bytes) : Type 0 where
+pub record HasNearest (P : ℕ) (nodes : ℕ → Option Node) (root : Option Child) (place : Place) (shown : Option Spot) (nearest : Bytes) : Type 0 where
   pub keys : ℕ → Option Bytes
-  pub shape : Shape P keys nodes (Some root)
+  pub shape : Shape P keys nodes root
   pub is : keys place.nearest ≡ Some nearest
   pub within : place.depth ≤ length nearest
   pub known : IfSome shown (IsShownIn P keys nodes root place.nearest place.depth)
@@ -65,10 +65,10 @@ pub record IsOverLeaf (nodes : ℕ → Option Node) (n depth byte leaf : ℕ) : 
   pub there : child_at node.edges byte ≡ Some (Leaf leaf)
 
 -- each tree in which the key leaves the nearest key at the spot now has the leaf i with the key too
-abbrev pub TreeGains : ℕ → (ℕ → Option Node) → (ℕ → Option Node) → Child → Child → Spot → Bytes → Bytes → ℕ → ℕ → Type 0
+abbrev pub TreeGains : ℕ → (ℕ → Option Node) → (ℕ → Option Node) → Option Child → Option Child → Spot → Bytes → Bytes → ℕ → ℕ → Type 0
 TreeGains P old new root root' spot key nearest depth i =
-    (keys keys' : ℕ → Option Bytes) (s : Shape P keys old (Some root)) (leaf : ℕ) → keys leaf ≡ Some nearest → LeavesNearest keys leaf depth key → SpotFits old (Some root) s.front_of nearest depth spot
-    → Gains keys keys' i key → Shape P keys' new (Some root')
+    (keys keys' : ℕ → Option Bytes) (s : Shape P keys old root) (leaf : ℕ) → keys leaf ≡ Some nearest → LeavesNearest keys leaf depth key → SpotFits old root s.front_of nearest depth spot
+    → Gains keys keys' i key → Shape P keys' new root'
 
 -- a node is made with these two edges, in the order of their bytes
 pub record Forks (old new : ℕ → Option Node) (n depth : ℕ) (prefix : List ℕ) (one other : Edge) : Type 0 where
@@ -93,9 +93,9 @@ abbrev pub content_of : {K V : Type 0} → Leaves K V → Nodes → Content K V
 content_of leaves nodes = record { pairs = leaves.pairs; spares = record { leaves = leaves_room leaves; nodes = room nodes } }
 
 -- the tree has all keys but that of the leaf i, which leaves the nearest key at this depth
-pub record IsToJoin (P : ℕ) (keys : ℕ → Option Bytes) (nodes : ℕ → Option Node) (root : Child) (nearest depth : ℕ) (shown : Option Spot) (i : ℕ) : Type 0 where
+pub record IsToJoin (P : ℕ) (keys : ℕ → Option Bytes) (nodes : ℕ → Option Node) (root : Option Child) (nearest depth : ℕ) (shown : Option Spot) (i : ℕ) : Type 0 where
   pub rest : ℕ → Option Bytes
-  pub shape : Shape P rest nodes (Some root)
+  pub shape : Shape P rest nodes root
   pub key : Bytes
   pub leaves : LeavesNearest rest nearest depth key
   pub gains : Gains rest keys i key

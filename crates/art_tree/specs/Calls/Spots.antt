@@ -5,7 +5,7 @@ use Rattle.art_tree.specs.Begins.{Bytes, Begins}
 use Rattle.art_kinds.specs.Nodes.{Node}
 use Rattle.art_kinds.specs.declared.records.ids.Child.{Child}
 use Rattle.art_kinds.specs.declared.records.ids.Child.TheVariants.{Leaf, Inner}
-use Rattle.art_tree.specs.declared.tree.edges.LeafSpot.{LeafSpot}
+use Rattle.art_tree.specs.declared.tree.skeleton.LeafSpot.{LeafSpot}
 use Rattle.art_tree.specs.declared.tree.descent.Spot.{Spot}
 use Rattle.art_tree.specs.declared.tree.descent.Spot.TheVariants as spot
 

@@ -11,7 +11,8 @@ ghost use Rattle.art_kinds.specs.Nodes.{at, room, SameNodes};
 use crate::tree::Tree;
 use crate::tree::place::{place_beside, place_first};
 use crate::tree::point::{Place, Point, point_below};
-use art_kinds::{Child, Nodes};
+use crate::tree::skeleton::Skeleton;
+use art_kinds::Nodes;
 use art_rows::Leaves;
 use art_slots::LeafId;
 use blart_keys::AsBytes;
@@ -41,31 +42,20 @@ impl<K: AsBytes + Drop, V: Drop, const PREFIX_LEN: usize> Tree<K, V, PREFIX_LEN>
         ensures room { places self.old ≤ places self.new + 1 }
     {
         self.leaves.law();
-        let root = match self.root {
+        let root = match self.skeleton.root {
             Some(root) => root,
             None => {
-                return match add_first(&mut self.leaves, &self.nodes, key, value) {
-                    Ok((_, root)) => {
-                        self.root = Some(root);
-                        Ok(Added::Placed)
-                    }
-                    Err(refused) => Err(refused),
-                };
+                add_first(&mut self.leaves, &mut self.skeleton, key, value)?;
+                return Ok(Added::Placed);
             }
         };
-        match point_below(&self.leaves, &self.nodes, &root, key.as_bytes()) {
+        match point_below(&self.leaves, &self.skeleton.nodes, &root, key.as_bytes()) {
             Point::Exact(id) => Ok(Added::Stored(id, key, value)),
             Point::Related { first, .. } => Ok(Added::Conflict(first, key, value)),
             Point::Empty => unreachable!(),
             Point::Free(place) => {
-                let leaves = &mut self.leaves;
-                match add_beside(leaves, &mut self.nodes, &root, &place, key, value) {
-                    Ok((_, root)) => {
-                        self.root = Some(root);
-                        Ok(Added::Placed)
-                    }
-                    Err(refused) => Err(refused),
-                }
+                add_beside(&mut self.leaves, &mut self.skeleton, &place, key, value)?;
+                Ok(Added::Placed)
             }
         }
     }
@@ -80,77 +70,85 @@ impl<K: AsBytes + Drop, V: Drop, const PREFIX_LEN: usize> Tree<K, V, PREFIX_LEN>
         ensures room { places self.old ≤ places self.new + 1 }
     {
         self.leaves.law();
-        let root = match self.root {
+        let root = match self.skeleton.root {
             Some(root) => root,
             None => {
-                let (_, root) = place_first(&mut self.leaves, &self.nodes, &None, key, value);
-                self.root = Some(root);
+                place_first(&mut self.leaves, &mut self.skeleton, key, value);
                 return Added::Placed;
             }
         };
-        match point_below(&self.leaves, &self.nodes, &root, key.as_bytes()) {
+        match point_below(&self.leaves, &self.skeleton.nodes, &root, key.as_bytes()) {
             Point::Exact(id) => Added::Stored(id, key, value),
             Point::Related { first, .. } => Added::Conflict(first, key, value),
             Point::Empty => unreachable!(),
             Point::Free(place) => {
-                let leaves = &mut self.leaves;
-                let nodes = &mut self.nodes;
                 let shown = Some(place.spot);
-                let (_, root) = place_beside(leaves, nodes, &root, &place, &shown, key, value);
-                self.root = Some(root);
+                place_beside(
+                    &mut self.leaves,
+                    &mut self.skeleton,
+                    &place,
+                    &shown,
+                    key,
+                    value,
+                );
                 Added::Placed
             }
         }
     }
 }
 
-/// Adds the first pair. Returns its leaf, and the root.
+/// Adds the first pair, and returns its leaf. Returns an error if it fails to allocate.
 #[cold]
 #[inline(never)]
 fn add_first<K: AsBytes + Drop, V: Drop, const P: usize>(
     leaves: &mut Leaves<K, V>,
-    nodes: &Nodes<P>,
+    skeleton: &mut Skeleton<P>,
     key: K,
     value: V,
-) -> Result<(LeafId, Child), AllocError>
-    requires whole { IsSound K.bytes P leaves.old nodes.now None }
+) -> Result<LeafId, AllocError>
+    requires whole { IsSound K.bytes P leaves.old skeleton.old.nodes skeleton.old.root }
     requires empty { leaves.old.pairs ≡ [] }
     ensures placed { IfOk result
-        (λ r. PutsPair K.bytes leaves.old.pairs leaves.new.pairs r.0 (key, value)) }
-    ensures whole { IfOk result (λ r. IsSound K.bytes P leaves.new nodes.now (Some r.1)) }
+        (λ id. PutsPair K.bytes leaves.old.pairs leaves.new.pairs id (key, value)) }
+    ensures whole { OnOk result
+        (IsSound K.bytes P leaves.new skeleton.new.nodes skeleton.new.root) }
     ensures room { leaves_room leaves.old ≤ leaves_room leaves.new + 1 }
+    ensures nodes { skeleton.new.nodes ≡ skeleton.old.nodes }
     ensures pairs { OnErr result (leaves.new.pairs ≡ leaves.old.pairs) }
+    ensures same { OnErr result (skeleton.new ≡ skeleton.old) }
 {
     leaves.law();
     leaves.reserve(1)?;
-    Ok(place_first(leaves, nodes, &None, key, value))
+    Ok(place_first(leaves, skeleton, key, value))
 }
 
-/// Adds a pair at a free place whose spot is right. Returns its leaf, and the root.
+/// Adds a pair at a free place whose spot is right, and returns its leaf. Returns an error if it
+/// fails to allocate.
 fn add_beside<K: AsBytes + Drop, V: Drop, const P: usize>(
     leaves: &mut Leaves<K, V>,
-    nodes: &mut Nodes<P>,
-    root: &Child,
+    skeleton: &mut Skeleton<P>,
     place: &Place,
     key: K,
     value: V,
-) -> Result<(LeafId, Child), AllocError>
-    requires whole { IsSound K.bytes P leaves.old nodes.old (Some root.now) }
+) -> Result<LeafId, AllocError>
+    requires whole { IsSound K.bytes P leaves.old skeleton.old.nodes skeleton.old.root }
     requires free { IsFree K.bytes leaves.old.pairs place.now (K.bytes key) }
-    requires spot { IsShownIn P (keys_in K.bytes leaves.old.pairs) (at nodes.old) root.now
-        place.now.nearest place.now.depth place.now.spot }
+    requires spot { IsShownIn P (keys_in K.bytes leaves.old.pairs) (at skeleton.old.nodes)
+        skeleton.old.root place.now.nearest place.now.depth place.now.spot }
     ensures placed { IfOk result
-        (λ r. PutsPair K.bytes leaves.old.pairs leaves.new.pairs r.0 (key, value)) }
-    ensures whole { IfOk result (λ r. IsSound K.bytes P leaves.new nodes.new (Some r.1)) }
+        (λ id. PutsPair K.bytes leaves.old.pairs leaves.new.pairs id (key, value)) }
+    ensures whole { OnOk result
+        (IsSound K.bytes P leaves.new skeleton.new.nodes skeleton.new.root) }
     ensures leaves_room { leaves_room leaves.old ≤ leaves_room leaves.new + 1 }
-    ensures nodes_room { room nodes.old ≤ room nodes.new + 1 }
+    ensures nodes_room { room skeleton.old.nodes ≤ room skeleton.new.nodes + 1 }
     ensures pairs { OnErr result (leaves.new.pairs ≡ leaves.old.pairs) }
-    ensures nodes { OnErr result (SameNodes nodes.old nodes.new) }
+    ensures nodes { OnErr result (SameNodes skeleton.old.nodes skeleton.new.nodes) }
+    ensures root { OnErr result (skeleton.new.root ≡ skeleton.old.root) }
 {
     leaves.law();
-    make_room_beside(leaves, nodes)?;
+    make_room_beside(leaves, &mut skeleton.nodes)?;
     let shown = Some(place.spot);
-    Ok(place_beside(leaves, nodes, root, place, &shown, key, value))
+    Ok(place_beside(leaves, skeleton, place, &shown, key, value))
 }
 
 /// Makes room for one more pair beside others. Returns an error if it fails to allocate.

@@ -7,6 +7,7 @@ ghost use Rattle.art_tree.specs.Pairs.{pairs_of};
 use crate::pair_list::Pairs;
 use crate::tree::Tree;
 use crate::tree::build::{Frame, build};
+use crate::tree::skeleton::Skeleton;
 use blart_keys::AsBytes;
 
 impl<K: AsBytes, V, const PREFIX_LEN: usize> Tree<K, V, PREFIX_LEN> {
@@ -16,8 +17,8 @@ impl<K: AsBytes, V, const PREFIX_LEN: usize> Tree<K, V, PREFIX_LEN> {
     pub fn into_pairs(self) -> Pairs<K, V>
         ensures { result.pairs ≡ pairs_of self.pairs }
     {
-        let Tree { leaves, nodes, .. } = self;
-        drop(nodes);
+        let Tree { leaves, skeleton } = self;
+        drop(skeleton);
         Pairs { leaves }
     }
 
@@ -39,8 +40,7 @@ impl<K: AsBytes, V, const PREFIX_LEN: usize> Tree<K, V, PREFIX_LEN> {
         drop(loose);
         Tree {
             leaves,
-            nodes,
-            root,
+            skeleton: Skeleton { nodes, root },
         }
     }
 }

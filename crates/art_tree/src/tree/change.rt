@@ -38,8 +38,8 @@ impl<K: AsBytes + Drop, V: Drop, const PREFIX_LEN: usize> Tree<K, V, PREFIX_LEN>
         ensures room { room self.new ≡ 0 }
     {
         self.leaves.clear();
-        self.nodes.clear();
-        self.root = None;
+        self.skeleton.nodes.clear();
+        self.skeleton.root = None;
     }
 
     /// Makes room for `count` placements, or returns an error if it fails to allocate. The pairs
@@ -53,7 +53,7 @@ impl<K: AsBytes + Drop, V: Drop, const PREFIX_LEN: usize> Tree<K, V, PREFIX_LEN>
         ensures refused { OnErr result (0 < count) }
     {
         self.leaves.reserve(count)?;
-        self.nodes.reserve(count)
+        self.skeleton.nodes.reserve(count)
     }
 }
 

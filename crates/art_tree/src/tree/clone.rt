@@ -3,6 +3,7 @@ ghost use Rattle.std.specs.Prelude.{◌≡◌, map, Contains, IfOk};
 ghost use Rattle.art_tree.specs.Clones.{AreClones};
 
 use crate::tree::Tree;
+use crate::tree::skeleton::Skeleton;
 use blart_keys::AsBytes;
 use std::alloc::AllocError;
 
@@ -21,8 +22,10 @@ impl<K: AsBytes + Clone, V: Clone, const PREFIX_LEN: usize> Tree<K, V, PREFIX_LE
     {
         Ok(Tree {
             leaves: self.leaves.clone()?,
-            nodes: self.nodes.clone()?,
-            root: self.root,
+            skeleton: Skeleton {
+                nodes: self.skeleton.nodes.clone()?,
+                root: self.skeleton.root,
+            },
         })
     }
 }

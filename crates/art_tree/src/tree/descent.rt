@@ -7,7 +7,7 @@ ghost use Rattle.art_tree.specs.Calls.Descents.{IsSubtree, IsRoot, IsWayOf, Find
 ghost use Rattle.art_tree.specs.Calls.Spots.{SpotFits};
 ghost use Rattle.art_kinds.specs.declared.records.ids.Child.{Child as Way};
 
-use crate::tree::edges::EdgeAbove;
+use crate::tree::skeleton::EdgeAbove;
 use art_kinds::{Child, NodeId, Nodes};
 use art_slots::{LeafId, Visits};
 

@@ -10,29 +10,33 @@ ghost use Rattle.art_tree.specs.Calls.Pruning.{Prunes, FreesSubtree, Loose, Lead
 ghost use Rattle.art_kinds.specs.Nodes.{Node, at, live};
 ghost use Rattle.art_kinds.specs.declared.records.ids.Child.{Child as Way};
 
-use crate::tree::edges::{EdgeAbove, redirect};
+use crate::tree::skeleton::{EdgeAbove, Skeleton};
 use art_kinds::{Child, NodeId, Nodes};
 use art_slots::{LeafId, Visits};
 
-/// Frees the nodes below an edge, and redirects the edge to this leaf. Returns the root.
-pub(crate) fn free_subtree<const P: usize>(
-    nodes: &mut Nodes<P>,
-    root: &Child,
-    above: &EdgeAbove,
-    child: &Child,
-    leaf: &LeafId,
-) -> Child
-    requires { (keys : ℕ → Option Bytes)
-        × Shape P keys (at nodes.old) (Some root.now)
-        × LeadsTo (at nodes.old) (Some root.now) above.now child.now }
-    ensures { (keys keys' : ℕ → Option Bytes) (s : Shape P keys (at nodes.old) (Some root.now))
-        (k : Bytes)
-        → LeadsTo (at nodes.old) (Some root.now) above.now child.now
-        → Prunes keys keys' (edge_front s.front_of above.now) leaf.now k
-        → Shape P keys' (at nodes.new) (Some result) }
-{
-    free_child(nodes, child);
-    redirect(nodes, root, above, &Child::Leaf(*leaf))
+impl<const P: usize> Skeleton<P> {
+    ghost use Rattle.std.specs.Prelude.{ℕ, Option};
+    ghost use Rattle.art_tree.specs.Begins.{Bytes};
+    ghost use Rattle.art_tree.specs.Invariant.EdgesAbove.{LeadsTo, edge_front};
+    ghost use Rattle.art_tree.specs.Invariant.Shape.{Shape};
+    ghost use Rattle.art_tree.specs.Calls.Pruning.{Prunes};
+    ghost use Rattle.art_kinds.specs.Nodes.{at};
+
+    /// Frees the nodes below an edge, and redirects the edge to this leaf.
+    pub(crate) fn free_subtree(&mut self, above: &EdgeAbove, child: &Child, leaf: &LeafId)
+        requires { (keys : ℕ → Option Bytes)
+            × Shape P keys (at self.old.nodes) self.old.root
+            × LeadsTo (at self.old.nodes) self.old.root above.now child.now }
+        ensures { (keys keys' : ℕ → Option Bytes)
+            (s : Shape P keys (at self.old.nodes) self.old.root)
+            (k : Bytes)
+            → LeadsTo (at self.old.nodes) self.old.root above.now child.now
+            → Prunes keys keys' (edge_front s.front_of above.now) leaf.now k
+            → Shape P keys' (at self.new.nodes) self.new.root }
+    {
+        free_child(&mut self.nodes, child);
+        self.redirect(above, &Child::Leaf(*leaf));
+    }
 }
 
 /// Frees a child and the nodes below it, if it is a node.

@@ -14,8 +14,8 @@ ghost use Rattle.art_tree.specs.Invariant.Sound.{IsSound};
 ghost use Rattle.art_kinds.specs.declared.records.ids.Child.TheVariants.{Inner};
 
 use crate::tree::descent::{Spot, locate};
-use crate::tree::edges::{EdgeAbove, redirect, redirect_moved, start_below};
 use crate::tree::point::{Place, Point, leaf_before};
+use crate::tree::skeleton::{EdgeAbove, Skeleton, start_below};
 use art_kinds::{Child, Edge, NodeId, Nodes};
 use art_rows::{Leaves, Position};
 use art_slots::{LeafId, Visits};
@@ -29,147 +29,216 @@ struct NewLeaf<'a> {
     depth: usize,
 }
 
-/// Places a pair at a point that is good for its key. Returns its leaf, and the root.
+/// Places a pair at a point that is good for its key, and returns its leaf.
 pub(crate) fn place_at<K: AsBytes + Drop, V: Drop, const P: usize>(
     leaves: &mut Leaves<K, V>,
-    nodes: &mut Nodes<P>,
-    root: &Option<Child>,
+    skeleton: &mut Skeleton<P>,
     point: &Point,
     key: K,
     value: V,
-) -> (LeafId, Child)
-    requires whole { IsSound K.bytes P leaves.old nodes.old root.now }
+) -> LeafId
+    requires whole { IsSound K.bytes P leaves.old skeleton.old.nodes skeleton.old.root }
     requires good { IsGood K.bytes leaves.old.pairs point.now (K.bytes key) }
     requires open { IsOpen point.now }
-    requires fits { Fits (content_of leaves.old nodes.old) point.now }
-    ensures placed { PutsPair K.bytes leaves.old.pairs leaves.new.pairs result.0
-        (key, value) }
-    ensures whole { IsSound K.bytes P leaves.new nodes.new (Some result.1) }
-    ensures room { places (content_of leaves.old nodes.old)
-        ≤ places (content_of leaves.new nodes.new) + 1 }
+    requires fits { Fits (content_of leaves.old skeleton.old.nodes) point.now }
+    ensures placed { PutsPair K.bytes leaves.old.pairs leaves.new.pairs result (key, value) }
+    ensures whole { IsSound K.bytes P leaves.new skeleton.new.nodes skeleton.new.root }
+    ensures room { places (content_of leaves.old skeleton.old.nodes)
+        ≤ places (content_of leaves.new skeleton.new.nodes) + 1 }
 {
     match point {
-        Point::Empty => place_first(leaves, nodes, root, key, value),
-        Point::Free(place) => match root {
-            Some(root) => {
-                let shown = spot_shown(nodes, root, place);
-                place_beside(leaves, nodes, root, place, &shown, key, value)
-            }
-            None => unreachable!(),
-        },
+        Point::Empty => place_first(leaves, skeleton, key, value),
+        Point::Free(place) => {
+            let shown = spot_shown(skeleton, place);
+            place_beside(leaves, skeleton, place, &shown, key, value)
+        }
         _ => unreachable!(),
     }
 }
 
-/// Places the first pair. Returns its leaf, and the root.
+/// Places the first pair, and returns its leaf.
 pub(crate) fn place_first<K: AsBytes + Drop, V: Drop, const P: usize>(
     leaves: &mut Leaves<K, V>,
-    nodes: &Nodes<P>,
-    root: &Option<Child>,
+    skeleton: &mut Skeleton<P>,
     key: K,
     value: V,
-) -> (LeafId, Child)
-    requires whole { IsSound K.bytes P leaves.old nodes.now root.now }
+) -> LeafId
+    requires whole { IsSound K.bytes P leaves.old skeleton.old.nodes skeleton.old.root }
     requires empty { leaves.old.pairs ≡ [] }
     requires room { 0 < leaves_room leaves.old }
-    ensures placed { PutsPair K.bytes leaves.old.pairs leaves.new.pairs result.0
-        (key, value) }
-    ensures whole { IsSound K.bytes P leaves.new nodes.now (Some result.1) }
-    ensures room { leaves_room leaves.old ≤ leaves_room leaves.new + 1 }
+    ensures placed { PutsPair K.bytes leaves.old.pairs leaves.new.pairs result (key, value) }
+    ensures whole { IsSound K.bytes P leaves.new skeleton.new.nodes skeleton.new.root }
+    ensures leaves_room { leaves_room leaves.old ≤ leaves_room leaves.new + 1 }
+    ensures nodes { skeleton.new.nodes ≡ skeleton.old.nodes }
 {
     leaves.law();
     let id = leaves.insert(None, Position::unknown(), key, value);
-    (id, Child::Leaf(id))
+    skeleton.root = Some(Child::Leaf(id));
+    id
 }
 
-/// Places a pair beside others. `shown` is the spot where its key leaves them, if that is known.
-/// Returns its leaf, and the root.
+/// Places a pair beside others, and returns its leaf. `shown` is the spot where its key leaves
+/// them, if that is known.
 pub(crate) fn place_beside<K: AsBytes + Drop, V: Drop, const P: usize>(
     leaves: &mut Leaves<K, V>,
-    nodes: &mut Nodes<P>,
-    root: &Child,
+    skeleton: &mut Skeleton<P>,
     place: &Place,
     shown: &Option<Spot>,
     key: K,
     value: V,
-) -> (LeafId, Child)
-    requires whole { IsSound K.bytes P leaves.old nodes.old (Some root.now) }
+) -> LeafId
+    requires whole { IsSound K.bytes P leaves.old skeleton.old.nodes skeleton.old.root }
     requires free { IsFree K.bytes leaves.old.pairs place.now (K.bytes key) }
-    requires shown { IfSome shown.now (IsShownIn P (keys_in K.bytes leaves.old.pairs) (at nodes.old)
-        root.now place.now.nearest place.now.depth) }
+    requires shown { IfSome shown.now (IsShownIn P (keys_in K.bytes leaves.old.pairs)
+        (at skeleton.old.nodes) skeleton.old.root place.now.nearest place.now.depth) }
     requires leaves_room { 0 < leaves_room leaves.old }
-    requires nodes_room { 0 < room nodes.old }
-    ensures placed { PutsPair K.bytes leaves.old.pairs leaves.new.pairs result.0
-        (key, value) }
-    ensures whole { IsSound K.bytes P leaves.new nodes.new (Some result.1) }
+    requires nodes_room { 0 < room skeleton.old.nodes }
+    ensures placed { PutsPair K.bytes leaves.old.pairs leaves.new.pairs result (key, value) }
+    ensures whole { IsSound K.bytes P leaves.new skeleton.new.nodes skeleton.new.root }
     ensures leaves_room { leaves_room leaves.old ≤ leaves_room leaves.new + 1 }
-    ensures nodes_room { room nodes.old ≤ room nodes.new + 1 }
+    ensures nodes_room { room skeleton.old.nodes ≤ room skeleton.new.nodes + 1 }
 {
     leaves.law();
     let (prev, seen) = leaf_before(leaves, &place.beside);
     let id = leaves.insert(prev, seen, key, value);
-    let top = join(leaves, nodes, root, place, shown, id);
-    (id, top)
+    skeleton.join(leaves, place, shown, id);
+    id
 }
 
-/// Adds a leaf to the tree. Its key leaves the nearest key at the depth of a place, at the spot
-/// `shown` if that is known. Reads the nearest leaf only if the spot is no node. Returns the root.
-fn join<K: AsBytes, V, const P: usize>(
-    leaves: &Leaves<K, V>,
-    nodes: &mut Nodes<P>,
-    root: &Child,
-    place: &Place,
-    shown: &Option<Spot>,
-    id: LeafId,
-) -> Child
-    requires joins { IsToJoin P (keys_in K.bytes leaves.now.pairs) (at nodes.old) root.now
-        place.now.nearest place.now.depth shown.now id }
-    requires room { 0 < room nodes.old }
-    ensures shape { Shape P (keys_in K.bytes leaves.now.pairs) (at nodes.new) (Some result) }
-    ensures room { room nodes.old ≤ room nodes.new + 1 }
-{
-    let (own, _) = leaves.read(id, &mut Visits::new());
-    let leaf = NewLeaf {
-        id,
-        key: own.as_bytes(),
-        depth: place.depth,
-    };
-    let known = *shown;
-    if let Some(Spot::Node(above, node)) = known {
-        return add_at_node(nodes, root, &above, &node, &leaf);
+impl<const P: usize> Skeleton<P> {
+    ghost use Rattle.std.specs.Prelude.{◌≡◌, ◌+◌, ◌<◌, ◌≤◌};
+    ghost use Rattle.art_tree.specs.Begins.{Bytes};
+    ghost use Rattle.art_tree.specs.Invariant.Shape.{Shape};
+    ghost use Rattle.art_tree.specs.Calls.Placing.{IsSpotFor, IsToJoin, TreeGains};
+    ghost use Rattle.art_tree.specs.Leaves.{keys_in};
+    ghost use Rattle.art_kinds.specs.Nodes.{at, room, FitsNew};
+
+    /// Adds a leaf. Its key leaves the nearest key at the depth of a place, at the spot `shown` if
+    /// that is known. Reads the nearest leaf only if the spot is no node.
+    fn join<K: AsBytes, V>(
+        &mut self,
+        leaves: &Leaves<K, V>,
+        place: &Place,
+        shown: &Option<Spot>,
+        id: LeafId,
+    )
+        requires joins { IsToJoin P (keys_in K.bytes leaves.now.pairs) (at self.old.nodes)
+            self.old.root place.now.nearest place.now.depth shown.now id }
+        requires room { 0 < room self.old.nodes }
+        ensures shape { Shape P (keys_in K.bytes leaves.now.pairs) (at self.new.nodes)
+            self.new.root }
+        ensures room { room self.old.nodes ≤ room self.new.nodes + 1 }
+    {
+        let (own, _) = leaves.read(id, &mut Visits::new());
+        let leaf = NewLeaf {
+            id,
+            key: own.as_bytes(),
+            depth: place.depth,
+        };
+        let known = *shown;
+        if let Some(Spot::Node(above, node)) = known {
+            return self.add_at_node(&above, &node, &leaf);
+        }
+        let (nearest, _) = leaves.read(place.nearest, &mut Visits::new());
+        let nearest = nearest.as_bytes();
+        let spot = spot_for(self, place, shown, nearest);
+        self.add_leaf(&spot, &leaf, nearest);
     }
-    let (nearest, _) = leaves.read(place.nearest, &mut Visits::new());
-    let nearest = nearest.as_bytes();
-    let spot = spot_for(nodes, root, place, shown, nearest);
-    add_leaf(nodes, root, &spot, &leaf, nearest)
+
+    /// Adds a leaf where its key leaves the nearest key.
+    fn add_leaf(&mut self, spot: &Spot, leaf: &NewLeaf<'_>, nearest: &[u8])
+        requires spot_fits { IsSpotFor P (at self.old.nodes) self.old.root spot.now
+            leaf.now.key.now nearest.now leaf.now.depth }
+        requires fits { 0 < room self.old.nodes }
+        ensures gains { TreeGains P (at self.old.nodes) (at self.new.nodes) self.old.root
+            self.new.root spot.now leaf.now.key.now nearest.now leaf.now.depth leaf.now.id }
+        ensures room { room self.old.nodes ≤ room self.new.nodes + 1 }
+    {
+        match spot {
+            Spot::Node(above, node) => self.add_at_node(above, node, leaf),
+            Spot::Edge(above, child) => self.add_at_edge(above, child, leaf, nearest),
+        }
+    }
+
+    /// Adds a leaf to a node where its key leaves the others.
+    fn add_at_node(&mut self, above: &EdgeAbove, node: &NodeId, leaf: &NewLeaf<'_>)
+        requires spot_fits { (nearest : Bytes) × IsSpotFor P (at self.old.nodes) self.old.root
+            (Spot.Node above.now node.now) leaf.now.key.now nearest leaf.now.depth }
+        requires fits { 0 < room self.old.nodes }
+        ensures gains { (nearest : Bytes) → TreeGains P (at self.old.nodes) (at self.new.nodes)
+            self.old.root self.new.root (Spot.Node above.now node.now) leaf.now.key.now nearest
+            leaf.now.depth leaf.now.id }
+        ensures room { room self.old.nodes ≤ room self.new.nodes + 1 }
+    {
+        let wide = self.nodes.widen(*node);
+        self.redirect_moved(above, *node, wide);
+        self.nodes
+            .add_edge(wide, leaf.key[leaf.depth], Child::Leaf(leaf.id));
+    }
+
+    /// Adds a leaf at an edge where its key leaves those below, under a new node.
+    fn add_at_edge(&mut self, above: &EdgeAbove, child: &Child, leaf: &NewLeaf<'_>, nearest: &[u8])
+        requires spot_fits { IsSpotFor P (at self.old.nodes) self.old.root
+            (Spot.Edge above.now child.now) leaf.now.key.now nearest.now leaf.now.depth }
+        requires fits { FitsNew self.old.nodes }
+        ensures gains { TreeGains P (at self.old.nodes) (at self.new.nodes) self.old.root
+            self.new.root (Spot.Edge above.now child.now) leaf.now.key.now nearest.now
+            leaf.now.depth leaf.now.id }
+        ensures room { room self.old.nodes ≤ room self.new.nodes + 1 }
+    {
+        let depth = leaf.depth;
+        let start = start_below(&self.nodes, above);
+        let byte = byte_on(&self.nodes, child, nearest, start, depth);
+        cut_prefix(&mut self.nodes, child, nearest, start, depth + 1);
+        let own = Edge {
+            byte: leaf.key[depth],
+            to: Child::Leaf(leaf.id),
+        };
+        let other = Edge { byte, to: *child };
+        let made = fork(
+            &mut self.nodes,
+            depth,
+            &leaf.key[start..depth],
+            &own,
+            &other,
+        );
+        self.redirect(above, &Child::Inner(made));
+    }
 }
 
 /// Returns where a key leaves the nearest key at the depth of a place: the spot that is known, or
 /// else the end of a descent by the nearest key.
 fn spot_for<const P: usize>(
-    nodes: &Nodes<P>,
-    root: &Child,
+    skeleton: &Skeleton<P>,
     place: &Place,
     shown: &Option<Spot>,
     nearest: &[u8],
 ) -> Spot
-    requires { HasNearest P (at nodes.now) root.now place.now shown.now nearest.now }
-    ensures { (h : HasNearest P (at nodes.now) root.now place.now shown.now nearest.now)
-        → SpotFits (at nodes.now)
-        (Some root.now) h.shape.front_of nearest.now place.now.depth result }
+    requires { HasNearest P (at skeleton.now.nodes) skeleton.now.root place.now shown.now
+        nearest.now }
+    ensures { (h : HasNearest P (at skeleton.now.nodes) skeleton.now.root place.now shown.now
+        nearest.now)
+        → SpotFits (at skeleton.now.nodes)
+        skeleton.now.root h.shape.front_of nearest.now place.now.depth result }
 {
     match shown {
         Some(spot) => *spot,
-        None => locate(nodes, root, nearest, place.depth, &mut Visits::new()),
+        None => match skeleton.root {
+            Some(root) => {
+                let mut visits = Visits::new();
+                locate(&skeleton.nodes, &root, nearest, place.depth, &mut visits)
+            }
+            None => unreachable!(),
+        },
     }
 }
 
 /// Returns the spot at the end of a place's edge, if that edge still leads to the nearest leaf or
 /// to a node that has it. Reads no leaf.
-fn spot_shown<const P: usize>(nodes: &Nodes<P>, root: &Child, place: &Place) -> Option<Spot>
-    ensures { IfSome result (IsShown P (at nodes.now) root.now place.now) }
+fn spot_shown<const P: usize>(skeleton: &Skeleton<P>, place: &Place) -> Option<Spot>
+    ensures { IfSome result (IsShown P (at skeleton.now.nodes) skeleton.now.root place.now) }
 {
-    let (above, child) = edge_toward(nodes, root, place)?;
+    let (above, child) = edge_toward(skeleton, place)?;
     match child {
         Child::Leaf(id) => {
             if id != place.nearest {
@@ -178,7 +247,7 @@ fn spot_shown<const P: usize>(nodes: &Nodes<P>, root: &Child, place: &Place) -> 
             Some(Spot::Edge(above, Child::Leaf(id)))
         }
         Child::Inner(id) => {
-            if !is_over_nearest(nodes, &id, place) {
+            if !is_over_nearest(&skeleton.nodes, &id, place) {
                 return None;
             }
             Some(Spot::Node(above, id))
@@ -187,21 +256,18 @@ fn spot_shown<const P: usize>(nodes: &Nodes<P>, root: &Child, place: &Place) -> 
 }
 
 /// Returns the edge above a place, and its child, if the node of that edge is above the place.
-fn edge_toward<const P: usize>(
-    nodes: &Nodes<P>,
-    root: &Child,
-    place: &Place,
-) -> Option<(EdgeAbove, Child)>
-    ensures leads { IfSome result (λ e. LeadsTo (at nodes.now) (Some root.now) e.0 e.1) }
-    ensures ends { IfSome result (λ e. EndsBelow (at nodes.now) e.0 place.now.depth) }
+fn edge_toward<const P: usize>(skeleton: &Skeleton<P>, place: &Place) -> Option<(EdgeAbove, Child)>
+    ensures leads { IfSome result
+        (λ e. LeadsTo (at skeleton.now.nodes) skeleton.now.root e.0 e.1) }
+    ensures ends { IfSome result (λ e. EndsBelow (at skeleton.now.nodes) e.0 place.now.depth) }
 {
     let Some((parent, byte)) = place.spot.above() else {
-        return Some((None, *root));
+        return Some((None, skeleton.root?));
     };
-    if !nodes.has(parent) {
+    if !skeleton.nodes.has(parent) {
         return None;
     }
-    let node = nodes.read(parent, &mut Visits::new());
+    let node = skeleton.nodes.read(parent, &mut Visits::new());
     if node.depth() >= place.depth {
         return None;
     }
@@ -229,78 +295,6 @@ fn is_over_nearest<const P: usize>(nodes: &Nodes<P>, id: &NodeId, place: &Place)
         Child::Leaf(leaf) => leaf == place.nearest,
         Child::Inner(_) => false,
     }
-}
-
-/// Adds a leaf where its key leaves the nearest key. Returns the root.
-fn add_leaf<const P: usize>(
-    nodes: &mut Nodes<P>,
-    root: &Child,
-    spot: &Spot,
-    leaf: &NewLeaf<'_>,
-    nearest: &[u8],
-) -> Child
-    requires spot_fits { IsSpotFor P (at nodes.old) root.now spot.now
-        leaf.now.key.now nearest.now leaf.now.depth }
-    requires fits { 0 < room nodes.old }
-    ensures gains { TreeGains P (at nodes.old) (at nodes.new) root.now result
-        spot.now leaf.now.key.now nearest.now leaf.now.depth leaf.now.id }
-    ensures room { room nodes.old ≤ room nodes.new + 1 }
-{
-    match spot {
-        Spot::Node(above, node) => add_at_node(nodes, root, above, node, leaf),
-        Spot::Edge(above, child) => add_at_edge(nodes, root, above, child, leaf, nearest),
-    }
-}
-
-/// Adds a leaf to a node where its key leaves the others. Returns the root.
-fn add_at_node<const P: usize>(
-    nodes: &mut Nodes<P>,
-    root: &Child,
-    above: &EdgeAbove,
-    node: &NodeId,
-    leaf: &NewLeaf<'_>,
-) -> Child
-    requires spot_fits { (nearest : Bytes) × IsSpotFor P (at nodes.old) root.now
-        (Spot.Node above.now node.now) leaf.now.key.now nearest leaf.now.depth }
-    requires fits { 0 < room nodes.old }
-    ensures gains { (nearest : Bytes) → TreeGains P (at nodes.old) (at nodes.new) root.now result
-        (Spot.Node above.now node.now) leaf.now.key.now nearest leaf.now.depth leaf.now.id }
-    ensures room { room nodes.old ≤ room nodes.new + 1 }
-{
-    let wide = nodes.widen(*node);
-    let top = redirect_moved(nodes, root, above, *node, wide);
-    nodes.add_edge(wide, leaf.key[leaf.depth], Child::Leaf(leaf.id));
-    top
-}
-
-/// Adds a leaf at an edge where its key leaves those below, under a new node. Returns the root.
-fn add_at_edge<const P: usize>(
-    nodes: &mut Nodes<P>,
-    root: &Child,
-    above: &EdgeAbove,
-    child: &Child,
-    leaf: &NewLeaf<'_>,
-    nearest: &[u8],
-) -> Child
-    requires spot_fits { IsSpotFor P (at nodes.old) root.now
-        (Spot.Edge above.now child.now) leaf.now.key.now nearest.now leaf.now.depth }
-    requires fits { FitsNew nodes.old }
-    ensures gains { TreeGains P (at nodes.old) (at nodes.new) root.now result
-        (Spot.Edge above.now child.now) leaf.now.key.now nearest.now leaf.now.depth
-        leaf.now.id }
-    ensures room { room nodes.old ≤ room nodes.new + 1 }
-{
-    let depth = leaf.depth;
-    let start = start_below(nodes, above);
-    let byte = byte_on(nodes, child, nearest, start, depth);
-    cut_prefix(nodes, child, nearest, start, depth + 1);
-    let own = Edge {
-        byte: leaf.key[depth],
-        to: Child::Leaf(leaf.id),
-    };
-    let other = Edge { byte, to: *child };
-    let made = fork(nodes, depth, &leaf.key[start..depth], &own, &other);
-    redirect(nodes, root, above, &Child::Inner(made))
 }
 
 /// Makes a node with two edges.

@@ -72,7 +72,7 @@ pub(crate) fn point_below<K: AsBytes, V, const P: usize>(
     requires { IsSound K.bytes P leaves.now nodes.now (Some root.now) }
     ensures good { IsGood K.bytes leaves.now.pairs result query.now }
     ensures spot { IfFree result (λ place. IsShownIn P (keys_in K.bytes leaves.now.pairs)
-        (at nodes.now) root.now place.nearest place.depth place.spot) }
+        (at nodes.now) (Some root.now) place.nearest place.depth place.spot) }
 {
     leaves.law();
     let mut visits = Visits::new();

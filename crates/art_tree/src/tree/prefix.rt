@@ -11,9 +11,8 @@ ghost use Rattle.art_kinds.specs.Nodes.{at};
 
 use crate::tree::Tree;
 use crate::tree::descent::Branch;
-use crate::tree::free_subtree::free_subtree;
 use crate::tree::seek::branch_below;
-use art_kinds::{Child, Nodes};
+use crate::tree::skeleton::Skeleton;
 use art_rows::Leaves;
 use art_slots::{LeafId, Visits};
 use blart_keys::AsBytes;
@@ -40,47 +39,44 @@ impl<K: AsBytes + Drop, V: Drop, const PREFIX_LEN: usize> Tree<K, V, PREFIX_LEN>
     fn remove_branch(&mut self, prefix: &[u8])
         ensures { self.new.pairs ≡ outside (bytes K.bytes) self.old.pairs prefix.now }
     {
-        let Some(root) = self.root else {
+        let Some(root) = self.skeleton.root else {
             return;
         };
         let mut visits = Visits::new();
-        let Some(branch) = branch_below(&self.leaves, &self.nodes, &root, prefix, &mut visits)
-        else {
+        let nodes = &self.skeleton.nodes;
+        let Some(branch) = branch_below(&self.leaves, nodes, &root, prefix, &mut visits) else {
             return;
         };
-        let root = prune(&mut self.leaves, &mut self.nodes, &root, &branch, prefix);
-        self.root = Some(root);
+        prune(&mut self.leaves, &mut self.skeleton, &branch, prefix);
         self.leaves.law();
         self.remove(branch.last);
     }
 }
 
 /// Removes the leaves of a branch but the last, and redirects the edge above the branch to that
-/// one. Returns the root.
+/// one.
 fn prune<K: AsBytes + Drop, V: Drop, const P: usize>(
     leaves: &mut Leaves<K, V>,
-    nodes: &mut Nodes<P>,
-    root: &Child,
+    skeleton: &mut Skeleton<P>,
     branch: &Branch,
     prefix: &[u8],
-) -> Child
-    requires sound { IsSound K.bytes P leaves.old nodes.old (Some root.now) }
-    requires branch { (s : Shape P (keys_in K.bytes leaves.old.pairs) (at nodes.old)
-        (Some root.now))
-        → IsBranch (keys_in K.bytes leaves.old.pairs) (at nodes.old)
-        (Some root.now) s.front_of prefix.now branch.now }
+)
+    requires sound { IsSound K.bytes P leaves.old skeleton.old.nodes skeleton.old.root }
+    requires branch { (s : Shape P (keys_in K.bytes leaves.old.pairs) (at skeleton.old.nodes)
+        skeleton.old.root)
+        → IsBranch (keys_in K.bytes leaves.old.pairs) (at skeleton.old.nodes)
+        skeleton.old.root s.front_of prefix.now branch.now }
     requires ends { ends (under (bytes K.bytes) leaves.old.pairs prefix.now)
         ≡ Some (branch.now.first, branch.now.last) }
-    ensures sound { IsSound K.bytes P leaves.new nodes.new (Some result) }
+    ensures sound { IsSound K.bytes P leaves.new skeleton.new.nodes skeleton.new.root }
     ensures ends { ends (under (bytes K.bytes) leaves.new.pairs prefix.now)
         ≡ Some (branch.now.last, branch.now.last) }
     ensures rest { outside (bytes K.bytes) leaves.new.pairs prefix.now
         ≡ outside (bytes K.bytes) leaves.old.pairs prefix.now }
 {
-    let root = free_subtree(nodes, root, &branch.above, &branch.child, &branch.last);
+    skeleton.free_subtree(&branch.above, &branch.child, &branch.last);
     remove_leaves(leaves, branch.first, branch.last, prefix);
     leaves.law();
-    root
 }
 
 /// Removes the leaves from one up to another, but for the last. These are the leaves whose bytes

@@ -13,8 +13,8 @@ ghost use Rattle.art_kinds.specs.declared.records.ids.Child.{Child as Way};
 ghost use Rattle.art_kinds.specs.declared.records.ids.Child.TheVariants.{Leaf, Inner};
 
 use crate::tree::Tree;
-use crate::tree::edges::{EdgeAbove, LeafSpot, redirect};
 use crate::tree::search::pair_toward;
+use crate::tree::skeleton::{EdgeAbove, LeafSpot, Skeleton};
 use art_kinds::{Child, Edge, NodeId, Nodes};
 use art_rows::{Leaves, Position};
 use art_slots::{LeafId, Visits};
@@ -35,10 +35,8 @@ impl<K: AsBytes + Drop, V: Drop, const PREFIX_LEN: usize> Tree<K, V, PREFIX_LEN>
         self.leaves.law();
         // The row is read before the descent, so that neither waits for the other.
         let seen = self.leaves.position_of(id);
-        let spot = spot_of(&self.leaves, &self.nodes, &self.root, &id);
-        let (pair, root) = take_leaf(&mut self.leaves, &mut self.nodes, &self.root, &spot, &seen);
-        self.root = root;
-        pair
+        let spot = spot_of(&self.leaves, &self.skeleton, &id);
+        take_leaf(&mut self.leaves, &mut self.skeleton, &spot, &seen)
     }
 
     /// Removes the pair with these bytes and returns it, or returns `None` if there is no such
@@ -53,10 +51,8 @@ impl<K: AsBytes + Drop, V: Drop, const PREFIX_LEN: usize> Tree<K, V, PREFIX_LEN>
             → leaf_in self.old.pairs id ≡ Some x }
     {
         self.leaves.law();
-        let (spot, seen) = spot_at(&self.leaves, &self.nodes, &self.root, query)?;
-        let (pair, root) = take_leaf(&mut self.leaves, &mut self.nodes, &self.root, &spot, &seen);
-        self.root = root;
-        Some(pair)
+        let (spot, seen) = spot_at(&self.leaves, &self.skeleton, query)?;
+        Some(take_leaf(&mut self.leaves, &mut self.skeleton, &spot, &seen))
     }
 }
 
@@ -64,17 +60,18 @@ impl<K: AsBytes + Drop, V: Drop, const PREFIX_LEN: usize> Tree<K, V, PREFIX_LEN>
 /// the leaf before the leaf, so that neither waits for the other.
 fn spot_at<K: AsBytes, V, const P: usize>(
     leaves: &Leaves<K, V>,
-    nodes: &Nodes<P>,
-    root: &Option<Child>,
+    skeleton: &Skeleton<P>,
     query: &[u8],
 ) -> Option<(LeafSpot, Position)>
-    requires { IsSound K.bytes P leaves.now nodes.now root.now }
+    requires { IsSound K.bytes P leaves.now skeleton.now.nodes skeleton.now.root }
     ensures found { option_map (λ s. s.0.id) result
         ≡ option_map (λ p. p.0) (stored (bytes K.bytes) leaves.now.pairs query.now) }
-    ensures spot { IfSome result (λ s. IsLeafSpot (at nodes.now) root.now s.0) }
+    ensures spot { IfSome result
+        (λ s. IsLeafSpot (at skeleton.now.nodes) skeleton.now.root s.0) }
 {
     leaves.law();
     let mut visits = Visits::new();
+    let (nodes, root) = (&skeleton.nodes, &skeleton.root);
     let Some((spot, key, _)) = pair_toward(leaves, nodes, root, query, &mut visits) else {
         return None;
     };
@@ -89,131 +86,121 @@ fn spot_at<K: AsBytes, V, const P: usize>(
 /// Returns a leaf with the edges to it.
 fn spot_of<K: AsBytes, V, const P: usize>(
     leaves: &Leaves<K, V>,
-    nodes: &Nodes<P>,
-    root: &Option<Child>,
+    skeleton: &Skeleton<P>,
     id: &LeafId,
 ) -> LeafSpot
-    requires sound { IsSound K.bytes P leaves.now nodes.now root.now }
+    requires sound { IsSound K.bytes P leaves.now skeleton.now.nodes skeleton.now.root }
     requires has { Has leaves.now.pairs id.now }
     ensures same { result.id ≡ id.now }
-    ensures spot { IsLeafSpot (at nodes.now) root.now result }
+    ensures spot { IsLeafSpot (at skeleton.now.nodes) skeleton.now.root result }
 {
     let mut visits = Visits::new();
     let (key, _) = leaves.read(*id, &mut visits);
+    let (nodes, root) = (&skeleton.nodes, &skeleton.root);
     match pair_toward(leaves, nodes, root, key.as_bytes(), &mut visits) {
         Some(found) => found.0,
         None => unreachable!(),
     }
 }
 
-/// Removes a leaf. `seen` is a guess of its position. Returns its pair, and the root.
+/// Removes a leaf, and returns its pair. `seen` is a guess of its position.
 fn take_leaf<K: AsBytes + Drop, V: Drop, const P: usize>(
     leaves: &mut Leaves<K, V>,
-    nodes: &mut Nodes<P>,
-    root: &Option<Child>,
+    skeleton: &mut Skeleton<P>,
     spot: &LeafSpot,
     seen: &Position,
-) -> ((K, V), Option<Child>)
-    requires sound { IsSound K.bytes P leaves.old nodes.old root.now }
+) -> (K, V)
+    requires sound { IsSound K.bytes P leaves.old skeleton.old.nodes skeleton.old.root }
     requires has { Has leaves.old.pairs spot.now.id }
-    requires spot { IsLeafSpot (at nodes.old) root.now spot.now }
-    ensures value { leaf_in leaves.old.pairs spot.now.id ≡ Some result.0 }
+    requires spot { IsLeafSpot (at skeleton.old.nodes) skeleton.old.root spot.now }
+    ensures value { leaf_in leaves.old.pairs spot.now.id ≡ Some result }
     ensures rest { leaves.new.pairs ≡ without_number leaves.old.pairs spot.now.id }
-    ensures sound { IsSound K.bytes P leaves.new nodes.new result.1 }
+    ensures sound { IsSound K.bytes P leaves.new skeleton.new.nodes skeleton.new.root }
 {
     leaves.law();
-    let root = unlink(leaves, nodes, root, spot);
-    let pair = leaves.remove(spot.id, *seen);
-    (pair, root)
+    skeleton.unlink(leaves, spot);
+    leaves.remove(spot.id, *seen)
 }
 
-/// Removes the edge to a leaf, and its node if that has one edge left. Returns the root.
-fn unlink<K: AsBytes, V, const P: usize>(
-    leaves: &Leaves<K, V>,
-    nodes: &mut Nodes<P>,
-    root: &Option<Child>,
-    spot: &LeafSpot,
-) -> Option<Child>
-    requires sound { IsSound K.bytes P leaves.now nodes.old root.now }
-    requires has { Has leaves.now.pairs spot.now.id }
-    requires spot { IsLeafSpot (at nodes.old) root.now spot.now }
-    ensures { (keys : ℕ → Option Bytes) (k : Bytes)
-        → Loses (keys_in K.bytes leaves.now.pairs) keys spot.now.id k
-        → Shape P keys (at nodes.new) result }
-{
-    let Some(root) = root else { unreachable!() };
-    match spot.edge {
-        None => None,
-        Some((node, byte)) => {
-            Some(drop_edge(leaves, nodes, root, &spot.above, &node, byte, &spot.id))
+impl<const P: usize> Skeleton<P> {
+    ghost use Rattle.std.specs.Prelude.{◌≡◌, ◌<◌, ℕ, length, Option, Some, IsSome};
+    ghost use Rattle.art_tree.specs.Begins.{Bytes};
+    ghost use Rattle.art_tree.specs.Invariant.EdgesAbove.{LeadsTo};
+    ghost use Rattle.art_tree.specs.Invariant.Shape.{Shape};
+    ghost use Rattle.art_tree.specs.Invariant.Sound.{IsSound};
+    ghost use Rattle.art_tree.specs.Calls.Removing.{Loses, IsLeafOf, Merged};
+    ghost use Rattle.art_tree.specs.Calls.Spots.{IsLeafSpot};
+    ghost use Rattle.art_tree.specs.Leaves.{Has, keys_in};
+    ghost use Rattle.art_kinds.specs.Nodes.{at};
+    ghost use Rattle.art_kinds.specs.declared.records.ids.Child.TheVariants.{Leaf, Inner};
+
+    /// Removes the edge to a leaf, and its node if that has one edge left.
+    fn unlink<K: AsBytes, V>(&mut self, leaves: &Leaves<K, V>, spot: &LeafSpot)
+        requires sound { IsSound K.bytes P leaves.now self.old.nodes self.old.root }
+        requires has { Has leaves.now.pairs spot.now.id }
+        requires spot { IsLeafSpot (at self.old.nodes) self.old.root spot.now }
+        ensures { (keys : ℕ → Option Bytes) (k : Bytes)
+            → Loses (keys_in K.bytes leaves.now.pairs) keys spot.now.id k
+            → Shape P keys (at self.new.nodes) self.new.root }
+    {
+        match spot.edge {
+            None => self.root = None,
+            Some((node, byte)) => self.drop_edge(leaves, &spot.above, &node, byte, &spot.id),
         }
     }
-}
 
-/// Removes the edge of a node to a leaf, and the node if it has one edge left. Returns the root.
-fn drop_edge<K: AsBytes, V, const P: usize>(
-    leaves: &Leaves<K, V>,
-    nodes: &mut Nodes<P>,
-    root: &Child,
-    above: &EdgeAbove,
-    node: &NodeId,
-    byte: u8,
-    id: &LeafId,
-) -> Child
-    requires sound { IsSound K.bytes P leaves.now nodes.old (Some root.now) }
-    requires has { Has leaves.now.pairs id.now }
-    requires leads { LeadsTo (at nodes.old) (Some root.now) (Some (node.now, byte)) (Leaf id.now) }
-    requires above { LeadsTo (at nodes.old) (Some root.now) above.now (Inner node.now) }
-    ensures { (keys : ℕ → Option Bytes) (k : Bytes)
-        → Loses (keys_in K.bytes leaves.now.pairs) keys id.now k
-        → Shape P keys (at nodes.new) (Some result) }
-{
-    let mut visits = Visits::new();
-    let count = nodes.read(*node, &mut visits).count();
-    if count > 2 {
-        return shrink(nodes, root, above, node, byte);
+    /// Removes the edge of a node to a leaf, and the node if it has one edge left.
+    fn drop_edge<K: AsBytes, V>(
+        &mut self,
+        leaves: &Leaves<K, V>,
+        above: &EdgeAbove,
+        node: &NodeId,
+        byte: u8,
+        id: &LeafId,
+    )
+        requires sound { IsSound K.bytes P leaves.now self.old.nodes self.old.root }
+        requires has { Has leaves.now.pairs id.now }
+        requires leads { LeadsTo (at self.old.nodes) self.old.root (Some (node.now, byte))
+            (Leaf id.now) }
+        requires above { LeadsTo (at self.old.nodes) self.old.root above.now (Inner node.now) }
+        ensures { (keys : ℕ → Option Bytes) (k : Bytes)
+            → Loses (keys_in K.bytes leaves.now.pairs) keys id.now k
+            → Shape P keys (at self.new.nodes) self.new.root }
+    {
+        let mut visits = Visits::new();
+        let count = self.nodes.read(*node, &mut visits).count();
+        if count > 2 {
+            return self.shrink(above, node, byte);
+        }
+        let other = other_edge(&self.nodes, node, byte);
+        join_child(&mut self.nodes, node, &other);
+        self.merge(above, node, &other.to);
     }
-    let other = other_edge(nodes, node, byte);
-    join_child(nodes, node, &other);
-    merge(nodes, root, above, node, &other.to)
-}
 
-/// Removes the edge to a leaf from a node that has two others. Returns the root.
-fn shrink<const P: usize>(
-    nodes: &mut Nodes<P>,
-    root: &Child,
-    above: &EdgeAbove,
-    node: &NodeId,
-    byte: u8,
-) -> Child
-    requires { (keys : ℕ → Option Bytes) × (i : ℕ)
-        × IsLeafOf P keys (at nodes.old) (Some root.now) above.now node.now byte i }
-    ensures { (keys keys' : ℕ → Option Bytes) (i : ℕ)
-        (h : IsLeafOf P keys (at nodes.old) (Some root.now) above.now node.now byte i)
-        → 2 < length h.node.edges → Loses keys keys' i h.key
-        → Shape P keys' (at nodes.new) (Some result) }
-{
-    nodes.remove_edge(*node, byte);
-    let moved = nodes.narrow(*node);
-    redirect(nodes, root, above, &Child::Inner(moved))
-}
+    /// Removes the edge to a leaf from a node that has two others.
+    fn shrink(&mut self, above: &EdgeAbove, node: &NodeId, byte: u8)
+        requires { (keys : ℕ → Option Bytes) × (i : ℕ)
+            × IsLeafOf P keys (at self.old.nodes) self.old.root above.now node.now byte i }
+        ensures { (keys keys' : ℕ → Option Bytes) (i : ℕ)
+            (h : IsLeafOf P keys (at self.old.nodes) self.old.root above.now node.now byte i)
+            → 2 < length h.node.edges → Loses keys keys' i h.key
+            → Shape P keys' (at self.new.nodes) self.new.root }
+    {
+        self.nodes.remove_edge(*node, byte);
+        let moved = self.nodes.narrow(*node);
+        self.redirect(above, &Child::Inner(moved));
+    }
 
-/// Removes a node, and redirects the edge above it to this child. Returns the root.
-fn merge<const P: usize>(
-    nodes: &mut Nodes<P>,
-    root: &Child,
-    above: &EdgeAbove,
-    node: &NodeId,
-    to: &Child,
-) -> Child
-    requires leads { LeadsTo (at nodes.old) (Some root.now) above.now (Inner node.now) }
-    requires live { IsSome (at nodes.old node.now) }
-    ensures { Merged (at nodes.old) (at nodes.new) (Some root.now) (Some result)
-        above.now node.now to.now }
-{
-    let root = redirect(nodes, root, above, to);
-    nodes.free(*node);
-    root
+    /// Removes a node, and redirects the edge above it to this child.
+    fn merge(&mut self, above: &EdgeAbove, node: &NodeId, to: &Child)
+        requires leads { LeadsTo (at self.old.nodes) self.old.root above.now (Inner node.now) }
+        requires live { IsSome (at self.old.nodes node.now) }
+        ensures { Merged (at self.old.nodes) (at self.new.nodes) self.old.root self.new.root
+            above.now node.now to.now }
+    {
+        self.redirect(above, to);
+        self.nodes.free(*node);
+    }
 }
 
 /// Returns an edge of a node other than the one to a leaf.

@@ -11,7 +11,7 @@ ghost use Rattle.art_tree.specs.Invariant.Sound.{IsSound};
 
 use crate::lists::begins;
 use crate::tree::Tree;
-use crate::tree::edges::LeafSpot;
+use crate::tree::skeleton::LeafSpot;
 use art_kinds::{Child, Nodes};
 use art_rows::Leaves;
 use art_slots::{LeafId, Visits};
@@ -31,7 +31,8 @@ impl<K: AsBytes, V, const PREFIX_LEN: usize> Tree<K, V, PREFIX_LEN> {
         ensures empty { self.now.pairs ≡ [] → visits.new.count ≡ visits.old.count }
     {
         self.law();
-        let Some(found) = pair_below(&self.leaves, &self.nodes, &self.root, query, visits) else {
+        let (nodes, root) = (&self.skeleton.nodes, &self.skeleton.root);
+        let Some(found) = pair_below(&self.leaves, nodes, root, query, visits) else {
             return None;
         };
         if found.1.as_bytes() == query {
@@ -55,7 +56,8 @@ impl<K: AsBytes, V, const PREFIX_LEN: usize> Tree<K, V, PREFIX_LEN> {
         ensures empty { self.now.pairs ≡ [] → visits.new.count ≡ visits.old.count }
     {
         self.law();
-        let Some(found) = pair_below(&self.leaves, &self.nodes, &self.root, query, visits) else {
+        let (nodes, root) = (&self.skeleton.nodes, &self.skeleton.root);
+        let Some(found) = pair_below(&self.leaves, nodes, root, query, visits) else {
             return None;
         };
         if begins(found.1.as_bytes(), query) {

@@ -83,10 +83,11 @@ impl<K: AsBytes, V, const PREFIX_LEN: usize> Tree<K, V, PREFIX_LEN> {
         if front.is_empty() {
             return self.ends();
         }
-        match self.root {
+        match self.skeleton.root {
             None => None,
             Some(root) => {
-                let branch = branch_below(&self.leaves, &self.nodes, &root, front, visits)?;
+                let nodes = &self.skeleton.nodes;
+                let branch = branch_below(&self.leaves, nodes, &root, front, visits)?;
                 Some((branch.first, branch.last))
             }
         }
@@ -129,9 +130,9 @@ impl<K: AsBytes, V, const PREFIX_LEN: usize> Tree<K, V, PREFIX_LEN> {
         ensures some_counted { self.now.pairs ≢ [] → visits.old.count < visits.new.count }
         ensures empty { self.now.pairs ≡ [] → visits.new.count ≡ visits.old.count }
     {
-        match self.root {
+        match self.skeleton.root {
             None => Err(None),
-            Some(root) => place_below(&self.leaves, &self.nodes, &root, query, visits),
+            Some(root) => place_below(&self.leaves, &self.skeleton.nodes, &root, query, visits),
         }
     }
 }

@@ -11,7 +11,7 @@ ghost use Rattle.art_kinds.specs.declared.records.ids.Child.TheVariants.{Leaf, I
 
 use crate::lists::{common_len, common_len_after};
 use crate::tree::descent::end_under;
-use crate::tree::edges::EdgeAbove;
+use crate::tree::skeleton::EdgeAbove;
 use art_kinds::{Child, Edge, NodeId, NodeRef, Nodes};
 use art_rows::Leaves;
 use art_slots::{LeafId, Visits};

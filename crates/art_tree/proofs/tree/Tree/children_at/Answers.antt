@@ -26,7 +26,7 @@ pub returns-in-None-clause-value : goal.returns-in-None-clause-value
 returns-in-None-clause-value g c =
     let kb = g.K.AsBytes.bytes in
     let i = c.self.inside in
-    rootless_value kb i.leaves.pairs c.self.invariant.content c.law.ensures.distinct (at i.nodes) i.root c.self.invariant.shape c.args.front.now c.in-None.is
+    rootless_value kb i.leaves.pairs c.self.invariant.content c.law.ensures.distinct (at i.skeleton.nodes) i.skeleton.root c.self.invariant.shape c.args.front.now c.in-None.is
     ∙ ap (λ t. set.len (parts (bytes kb) t.pairs c.args.front.now)) c.self.view_is
 
 pub children_below-requires : goal.children_below-requires

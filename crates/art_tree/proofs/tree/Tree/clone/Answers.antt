@@ -15,10 +15,10 @@ invariant_of-result g c =
     let qs = c.in_ok-clone.field-0.pairs in
     let copies = c.in_ok-clone.ensures.cloned in
     let firm : AreFirm kb g.K.Clone.is_clone g.V.Clone.is_clone ps = subst (λ (t : Content g.row.K.Denot g.row.V.Denot). AreFirm kb g.K.Clone.is_clone g.V.Clone.is_clone t.pairs) (sym c.self.view_is) c.requires in
-    let keyed = rekeyed (keys_in kb ps) (keys_in kb qs) (at i.nodes) i.root c.self.invariant.shape (keys-copies kb g.K.Clone.is_clone g.V.Clone.is_clone ps qs firm copies) in
+    let keyed = rekeyed (keys_in kb ps) (keys_in kb qs) (at i.skeleton.nodes) i.skeleton.root c.self.invariant.shape (keys-copies kb g.K.Clone.is_clone g.V.Clone.is_clone ps qs firm copies) in
     record {
       content = content-copies kb g.K.Clone.is_clone g.V.Clone.is_clone ps qs firm copies c.self.invariant.content;
-      shape = renoded (keys_in kb qs) (at i.nodes) (at c.in_ok-clone-2.field-0) i.root keyed c.in_ok-clone-2.ensures.same;
+      shape = renoded (keys_in kb qs) (at i.skeleton.nodes) (at c.in_ok-clone-2.field-0) i.skeleton.root keyed c.in_ok-clone-2.ensures.same;
     }
 
 pub returns : goal.returns

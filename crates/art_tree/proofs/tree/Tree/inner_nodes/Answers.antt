@@ -10,7 +10,7 @@ pub returns-clause-value : goal.returns-clause-value
 returns-clause-value g c =
     let i = c.self.inside in
     c.live.ensures
-    ∙ nodes_are_fronts g.K.AsBytes.bytes i.leaves.pairs i.nodes i.root c.self.invariant.content c.law.ensures.distinct c.self.invariant.shape
+    ∙ nodes_are_fronts g.K.AsBytes.bytes i.leaves.pairs i.skeleton.nodes i.skeleton.root c.self.invariant.content c.law.ensures.distinct c.self.invariant.shape
     ∙ ap (λ t. set.len (fronts (bytes g.K.AsBytes.bytes) t.pairs)) c.self.view_is
 
 pub returns-clause-fewer : goal.returns-clause-fewer

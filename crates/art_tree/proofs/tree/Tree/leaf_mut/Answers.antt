@@ -9,4 +9,4 @@ invariant_of-self-lent g c w =
     let i = c.self.inside in
     let old = i.leaves.pairs in
     let same = keys_in-with_value key_bytes old c.args.id w in
-    sound_over key_bytes i.leaves _ i.nodes i.root c.self.invariant (content_with_value key_bytes old c.args.id w c.self.invariant.content) same
+    sound_over key_bytes i.leaves _ i.skeleton.nodes i.skeleton.root c.self.invariant (content_with_value key_bytes old c.args.id w c.self.invariant.content) same

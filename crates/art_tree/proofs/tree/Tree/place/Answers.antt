@@ -3,4 +3,4 @@ use Rattle.blart_keys.proofs.Mapped.{put_map}
 use Rattle.art_tree.proofs.tree.Tree.place.Goals as goal
 
 pub returns-clause-put : goal.returns-clause-put
-returns-clause-put g c = rw (← c.self.view_is) (put_map (λ p. p.1) (pair_bytes g.K.AsBytes.bytes) c.self.inside.leaves.pairs c.place_at-id.new.leaves.pairs (c.place_at-id.result.0, (c.args.key, c.args.value)) c.place_at-id.ensures.placed.put)
+returns-clause-put g c = rw (← c.self.view_is) (put_map (λ p. p.1) (pair_bytes g.K.AsBytes.bytes) c.self.inside.leaves.pairs c.place_at.new.leaves.pairs (c.place_at.result, (c.args.key, c.args.value)) c.place_at.ensures.placed.put)

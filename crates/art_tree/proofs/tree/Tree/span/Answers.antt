@@ -12,7 +12,7 @@ use Rattle.art_tree.proofs.tree.Tree.span.Goals as goal
 
 pub returns-in-None-clause-found : goal.returns-in-None-clause-found
 returns-in-None-clause-found g c =
-    let none = ap (λ t. t.pairs) (sym c.self.view_is) ∙ rootless g.K.AsBytes.bytes c.self.inside.leaves.pairs (at c.self.inside.nodes) c.self.inside.root c.self.invariant.shape c.in-None.is in
+    let none = ap (λ t. t.pairs) (sym c.self.view_is) ∙ rootless g.K.AsBytes.bytes c.self.inside.leaves.pairs (at c.self.inside.skeleton.nodes) c.self.inside.skeleton.root c.self.invariant.shape c.in-None.is in
     sym (ap (λ S. ends (under (bytes g.K.AsBytes.bytes) S c.args.front.now)) none)
 
 -- each key begins with the empty list
@@ -26,4 +26,4 @@ returns-then-is_empty-clause-found g c =
     c.ends.ensures ∙ sym (ap (λ T. ends T) (under_none g.K.AsBytes.bytes S c.args.front.now none))
 
 pub returns-in-None-clause-some_counted : goal.returns-in-None-clause-some_counted
-returns-in-None-clause-some_counted g c = λ bytes some. absurd (some (ap (λ t. t.pairs) (sym c.self.view_is) ∙ rootless g.K.AsBytes.bytes c.self.inside.leaves.pairs (at c.self.inside.nodes) c.self.inside.root c.self.invariant.shape c.in-None.is))
+returns-in-None-clause-some_counted g c = λ bytes some. absurd (some (ap (λ t. t.pairs) (sym c.self.view_is) ∙ rootless g.K.AsBytes.bytes c.self.inside.leaves.pairs (at c.self.inside.skeleton.nodes) c.self.inside.skeleton.root c.self.invariant.shape c.in-None.is))

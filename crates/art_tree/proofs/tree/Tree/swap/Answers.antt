@@ -26,10 +26,10 @@ invariant_of-self g c =
     let was = c.self.invariant in
     let apart = apart_key key_bytes old id y d may in
     let near = near_new key_bytes old id y d may x c.exchange.ensures.value in
-    sound_same key_bytes (record i.leaves { pairs = new }) c.exchange.new.self i.nodes i.nodes i.root
+    sound_same key_bytes (record i.leaves { pairs = new }) c.exchange.new.self i.skeleton.nodes i.skeleton.nodes i.skeleton.root
     (record {
       content = content_with key_bytes old id y d may was.content;
-      shape = shape_exchanged (keys_in key_bytes old) (keys_in key_bytes new) (at i.nodes) i.root id (key_bytes x.0) (key_bytes c.args.key) was.shape ex near apart;
+      shape = shape_exchanged (keys_in key_bytes old) (keys_in key_bytes new) (at i.skeleton.nodes) i.skeleton.root id (key_bytes x.0) (key_bytes c.args.key) was.shape ex near apart;
     })
     c.exchange.ensures.pairs (λ j. refl)
 

@@ -1,4 +1,4 @@
-use Rattle.std.proofs.Common.{◌≡◌, ℕ, List, lit<, sym, subst, Option, Some}
+use Rattle.std.proofs.Common.{◌≡◌, ℕ, List, lit<, sym, subst, Option}
 use Rattle.art_kinds.specs.Nodes.{Node, at}
 use Rattle.art_tree.specs.Calls.Placing.{IsShownIn}
 use Rattle.art_tree.specs.Leaves.{Numbered, keys_in}
@@ -11,14 +11,14 @@ place_beside-requires g c =
     let kb = g.K.AsBytes.bytes in
     let P = g.row.P in
     let l = c.args.leaves.now in
-    let n = c.args.nodes.now in
-    let root = c.args.root.now in
+    let n = c.args.skeleton.now.nodes in
+    let root = c.args.skeleton.now.root in
     let p = c.args.place.now in
     let r = c.requires in
     let m = c.make_room_beside in
     let l' = m.new.leaves in
     let n' = m.new.nodes in
-    let whole = sound_same kb l l' n n' (Some root) r.whole m.ensures.pairs m.ensures.nodes in
+    let whole = sound_same kb l l' n n' root r.whole m.ensures.pairs m.ensures.nodes in
     let free = subst (λ (S : List (Numbered g.row.K.Denot g.row.V.Denot)). IsFree kb S p (kb c.args.key)) (sym m.ensures.pairs) r.free in
     let same : at n ≡ at n' = λ i j. sym (m.ensures.nodes j) i in
     let keyed = subst (λ (S : List (Numbered g.row.K.Denot g.row.V.Denot)). IsShownIn P (keys_in kb S) (at n) root p.nearest p.depth p.spot) (sym m.ensures.pairs) r.spot in

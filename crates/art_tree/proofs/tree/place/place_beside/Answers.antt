@@ -13,15 +13,15 @@ insert-id-requires-clause-prev g c =
     let b = c.leaf_before-prev in
     has_leaf_before kb old q b.result.0 (free_before kb old c.args.place.now q c.requires.whole.content c.law.ensures.distinct c.requires.free b.result.0 b.ensures)
 
-pub join-top-requires : goal.join-top-requires
-join-top-requires g c =
+pub join-requires : goal.join-requires
+join-requires g c =
     let kb = g.K.AsBytes.bytes in
     let l = c.args.leaves.now in
     let b = c.leaf_before-prev in
     let i = c.insert-id in
     let x : g.row.K.Denot × g.row.V.Denot = (c.args.key, c.args.value) in
     let p = placed_free kb l.pairs c.args.place.now (kb x.0) c.requires.whole.content c.law.ensures.distinct c.requires.free b.result.0 b.ensures i.new.self.pairs i.result x refl i.ensures.fresh i.ensures.placed in
-    (lit< tt, (joins kb l c.args.nodes.now c.args.root.now i.new.self.pairs c.args.place.now.nearest c.args.place.now.depth c.args.shown.now i.result x c.requires.whole c.requires.free.leaves c.requires.shown p, c.requires.nodes_room))
+    (lit< tt, (joins kb l c.args.skeleton.now.nodes c.args.skeleton.now.root i.new.self.pairs c.args.place.now.nearest c.args.place.now.depth c.args.shown.now i.result x c.requires.whole c.requires.free.leaves c.requires.shown p, c.requires.nodes_room))
 
 pub returns-clause-placed : goal.returns-clause-placed
 returns-clause-placed g c =
@@ -31,4 +31,4 @@ returns-clause-placed g c =
     placed_free kb c.args.leaves.now.pairs c.args.place.now (kb c.args.key) c.requires.whole.content c.law.ensures.distinct c.requires.free b.result.0 b.ensures i.new.self.pairs i.result (c.args.key, c.args.value) refl i.ensures.fresh i.ensures.placed
 
 pub returns-clause-whole : goal.returns-clause-whole
-returns-clause-whole g c = record { content = (returns-clause-placed g c).put.content; shape = c.join-top.ensures.shape }
+returns-clause-whole g c = record { content = (returns-clause-placed g c).put.content; shape = c.join.ensures.shape }

@@ -9,4 +9,4 @@ returns-clause-placed g c =
 pub returns-clause-whole : goal.returns-clause-whole
 returns-clause-whole g c =
     let i = c.insert-id in
-    first_sound g.K.AsBytes.bytes c.args.leaves.now i.new.self c.args.nodes.now c.args.root.now i.result (c.args.key, c.args.value) c.requires.whole c.requires.empty (returns-clause-placed g c)
+    first_sound g.K.AsBytes.bytes c.args.leaves.now i.new.self c.args.skeleton.now.nodes c.args.skeleton.now.root i.result (c.args.key, c.args.value) c.requires.whole c.requires.empty (returns-clause-placed g c)

@@ -1,12 +1,12 @@
-use Rattle.std.proofs.Common.{Some, lit<}
+use Rattle.std.proofs.Common.{lit<}
 use Rattle.art_kinds.specs.Nodes.{at}
 use Rattle.art_tree.specs.Leaves.{keys_in}
 use Rattle.art_tree.specs.Invariant.EdgesAbove.{edge_front}
 use Rattle.art_tree.proofs.NumberedPairs.Branches.{branch_keys, last_left}
 use Rattle.art_tree.proofs.tree.prefix.prune.Goals as goal
 
-pub free_subtree-root-requires : goal.free_subtree-root-requires
-free_subtree-root-requires g c =
+pub free_subtree-requires : goal.free_subtree-requires
+free_subtree-requires g c =
     let s = c.requires.sound.shape in
     (lit< tt, (keys_in g.K.AsBytes.bytes c.args.leaves.now.pairs, s, (c.requires.branch s).leads))
 
@@ -18,5 +18,5 @@ returns-clause-sound g c =
     let new = c.remove_leaves.new.leaves.pairs in
     let b = c.requires.branch s in
     let r = c.remove_leaves.ensures in
-    let p = last_left kb old new c.args.prefix.now (edge_front s.front_of c.args.branch.now.above) c.args.branch.now.last c.law.ensures.distinct r.ends r.rest r.stood b.along (branch_keys (keys_in kb old) (at c.args.nodes.now) (Some c.args.root.now) s c.args.prefix.now c.args.branch.now b) in
-    record { content = r.content; shape = c.free_subtree-root.ensures (keys_in kb old) (keys_in kb new) s p.0 b.leads p.1 }
+    let p = last_left kb old new c.args.prefix.now (edge_front s.front_of c.args.branch.now.above) c.args.branch.now.last c.law.ensures.distinct r.ends r.rest r.stood b.along (branch_keys (keys_in kb old) (at c.args.skeleton.now.nodes) c.args.skeleton.now.root s c.args.prefix.now c.args.branch.now b) in
+    record { content = r.content; shape = c.free_subtree.ensures (keys_in kb old) (keys_in kb new) s p.0 b.leads p.1 }

@@ -12,6 +12,6 @@ returns-clause-sound g c =
     let i = c.args.spot.now.id in
     let kb = g.K.AsBytes.bytes in
     let new = without_number old i in
-    let loses = loses_from kb old new i (others-without_number old i c.law.ensures.distinct) c.remove-pair.result c.remove-pair.ensures.value (leaf_in-without_now old i c.law.ensures.distinct) in
-    sound_same kb (record c.args.leaves.now { pairs = new }) c.remove-pair.new.self c.unlink-root.new.nodes c.unlink-root.new.nodes c.unlink-root.result
-    (record { content = content_without kb old i c.requires.sound.content; shape = c.unlink-root.ensures (keys_in kb new) (kb c.remove-pair.result.0) loses }) c.remove-pair.ensures.rest (λ j. refl)
+    let loses = loses_from kb old new i (others-without_number old i c.law.ensures.distinct) c.remove.result c.remove.ensures.value (leaf_in-without_now old i c.law.ensures.distinct) in
+    sound_same kb (record c.args.leaves.now { pairs = new }) c.remove.new.self c.unlink.new.self.nodes c.unlink.new.self.nodes c.unlink.new.self.root
+    (record { content = content_without kb old i c.requires.sound.content; shape = c.unlink.ensures (keys_in kb new) (kb c.remove.result.0) loses }) c.remove.ensures.rest (λ j. refl)

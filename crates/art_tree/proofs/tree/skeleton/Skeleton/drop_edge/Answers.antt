@@ -7,7 +7,7 @@ use Rattle.art_tree.proofs.Calls.Unlinking.{leaf_at_node, child_below_edge, lose
 use Rattle.art_tree.proofs.Invariant.Losing.{edge_merged}
 use Rattle.art_tree.proofs.Invariant.Prefixes.{cut_node, cut_leads}
 use Rattle.blart_keys.proofs.Options.{is_some}
-use Rattle.art_tree.proofs.tree.remove.drop_edge.Goals as goal
+use Rattle.art_tree.proofs.tree.skeleton.Skeleton.drop_edge.Goals as goal
 
 pub shrink-requires : goal.shrink-requires
 shrink-requires g c =
@@ -16,7 +16,7 @@ shrink-requires g c =
       (
         keys_in g.K.AsBytes.bytes c.args.leaves.now.pairs,
         c.args.id.now,
-        leaf_at_node g.K.AsBytes.bytes c.args.leaves.now.pairs (at c.args.nodes.now) (Some c.args.root.now) r.sound.shape c.args.id.now r.has c.args.node.now c.args.byte r.leads c.args.above.now c.requires.above,
+        leaf_at_node g.K.AsBytes.bytes c.args.leaves.now.pairs (at c.args.self.now.nodes) c.args.self.now.root r.sound.shape c.args.id.now r.has c.args.node.now c.args.byte r.leads c.args.above.now c.requires.above,
       ),
     )
 
@@ -24,8 +24,8 @@ pub returns-then-count-gt2 : goal.returns-then-count-gt2
 returns-then-count-gt2 g c = λ keys k loses.
     let r = c.requires in
     let old = keys_in g.K.AsBytes.bytes c.args.leaves.now.pairs in
-    let nodes = at c.args.nodes.now in
-    let h = leaf_at_node g.K.AsBytes.bytes c.args.leaves.now.pairs nodes (Some c.args.root.now) r.sound.shape c.args.id.now r.has c.args.node.now c.args.byte r.leads c.args.above.now c.requires.above in
+    let nodes = at c.args.self.now.nodes in
+    let h = leaf_at_node g.K.AsBytes.bytes c.args.leaves.now.pairs nodes c.args.self.now.root r.sound.shape c.args.id.now r.has c.args.node.now c.args.byte r.leads c.args.above.now c.requires.above in
     let a : nodes c.args.node.now ≡ Some h.node = h.is in
     let b : nodes c.args.node.now ≡ Some c.read.result = c.read.ensures.value in
     let e : h.node ≡ c.read.result = cc in
@@ -39,35 +39,35 @@ other_edge-other-requires g c =
       lit< tt,
       (
         keys_in g.K.AsBytes.bytes c.args.leaves.now.pairs,
-        Some c.args.root.now,
+        c.args.self.now.root,
         c.args.above.now,
         c.args.id.now,
-        leaf_at_node g.K.AsBytes.bytes c.args.leaves.now.pairs (at c.args.nodes.now) (Some c.args.root.now) r.sound.shape c.args.id.now r.has c.args.node.now c.args.byte r.leads c.args.above.now c.requires.above,
+        leaf_at_node g.K.AsBytes.bytes c.args.leaves.now.pairs (at c.args.self.now.nodes) c.args.self.now.root r.sound.shape c.args.id.now r.has c.args.node.now c.args.byte r.leads c.args.above.now c.requires.above,
       ),
     )
 
 pub join_child-requires : goal.join_child-requires
 join_child-requires g c =
     let keys = keys_in g.K.AsBytes.bytes c.args.leaves.now.pairs in
-    (lit< tt, (keys, c.args.above.now, child_below_edge keys (at c.args.nodes.now) (Some c.args.root.now) c.requires.sound.shape c.args.above.now c.args.node.now c.args.byte c.other_edge-other.result c.requires.above c.other_edge-other.ensures))
+    (lit< tt, (keys, c.args.above.now, child_below_edge keys (at c.args.self.now.nodes) c.args.self.now.root c.requires.sound.shape c.args.above.now c.args.node.now c.args.byte c.other_edge-other.result c.requires.above c.other_edge-other.ensures))
 
 pub merge-requires : goal.merge-requires
 merge-requires g c =
     let s = c.requires.sound.shape in
     let above = c.args.above.now in
-    let cuts = c.join_child.ensures (keys_in g.K.AsBytes.bytes c.args.leaves.now.pairs) c.args.above.now (child_below_edge (keys_in g.K.AsBytes.bytes c.args.leaves.now.pairs) (at c.args.nodes.now) (Some c.args.root.now) c.requires.sound.shape c.args.above.now c.args.node.now c.args.byte c.other_edge-other.result c.requires.above c.other_edge-other.ensures) in
+    let cuts = c.join_child.ensures (keys_in g.K.AsBytes.bytes c.args.leaves.now.pairs) c.args.above.now (child_below_edge (keys_in g.K.AsBytes.bytes c.args.leaves.now.pairs) (at c.args.self.now.nodes) c.args.self.now.root c.requires.sound.shape c.args.above.now c.args.node.now c.args.byte c.other_edge-other.result c.requires.above c.other_edge-other.ensures) in
     let o = c.other_edge-other.ensures in
-    let y = cut_node g.row.P (at c.args.nodes.now) (at c.join_child.new.nodes) s.front_of _ c.other_edge-other.result.to cuts c.args.node.now o.node o.is in
-    (lit< tt, (cut_leads g.row.P (at c.args.nodes.now) (at c.join_child.new.nodes) s.front_of _ c.other_edge-other.result.to cuts (Some c.args.root.now) above (Inner c.args.node.now) c.requires.above, is_some (at c.join_child.new.nodes c.args.node.now) y.0 y.1))
+    let y = cut_node g.row.P (at c.args.self.now.nodes) (at c.join_child.new.nodes) s.front_of _ c.other_edge-other.result.to cuts c.args.node.now o.node o.is in
+    (lit< tt, (cut_leads g.row.P (at c.args.self.now.nodes) (at c.join_child.new.nodes) s.front_of _ c.other_edge-other.result.to cuts c.args.self.now.root above (Inner c.args.node.now) c.requires.above, is_some (at c.join_child.new.nodes c.args.node.now) y.0 y.1))
 
 pub returns : goal.returns
 returns g c = λ keys k loses.
     let r = c.requires in
     let old = keys_in g.K.AsBytes.bytes c.args.leaves.now.pairs in
-    let nodes = at c.args.nodes.now in
+    let nodes = at c.args.self.now.nodes in
     let above = c.args.above.now in
-    let h = leaf_at_node g.K.AsBytes.bytes c.args.leaves.now.pairs nodes (Some c.args.root.now) r.sound.shape c.args.id.now r.has c.args.node.now c.args.byte r.leads above c.requires.above in
-    let cuts = c.join_child.ensures (keys_in g.K.AsBytes.bytes c.args.leaves.now.pairs) c.args.above.now (child_below_edge (keys_in g.K.AsBytes.bytes c.args.leaves.now.pairs) (at c.args.nodes.now) (Some c.args.root.now) c.requires.sound.shape c.args.above.now c.args.node.now c.args.byte c.other_edge-other.result c.requires.above c.other_edge-other.ensures) in
+    let h = leaf_at_node g.K.AsBytes.bytes c.args.leaves.now.pairs nodes c.args.self.now.root r.sound.shape c.args.id.now r.has c.args.node.now c.args.byte r.leads above c.requires.above in
+    let cuts = c.join_child.ensures (keys_in g.K.AsBytes.bytes c.args.leaves.now.pairs) c.args.above.now (child_below_edge (keys_in g.K.AsBytes.bytes c.args.leaves.now.pairs) (at c.args.self.now.nodes) c.args.self.now.root c.requires.sound.shape c.args.above.now c.args.node.now c.args.byte c.other_edge-other.result c.requires.above c.other_edge-other.ensures) in
     let o = c.other_edge-other.ensures in
     let a : nodes c.args.node.now ≡ Some h.node = h.is in
     let b : nodes c.args.node.now ≡ Some c.read.result = c.read.ensures.value in
@@ -79,5 +79,5 @@ returns g c = λ keys k loses.
     let t : 2 ≤ length h.node.edges = two_children h.node.edges c.args.byte c.other_edge-other.result.byte _ _ h.low high o.other in
     let u : c.count-count.result ≤ 2 = c.if-count-gt2.false in
     let m = c.merge.ensures in
-    edge_merged old keys nodes (Some c.args.root.now) c.args.node.now c.args.id.now c.args.byte h.key h.shape (loses_same old keys c.args.id.now k h.key loses h.key_is) h.node h.is h.low
-    (at c.join_child.new.nodes) m.0 (at c.merge.new.nodes) (Some c.merge.result) c.other_edge-other.result.byte c.other_edge-other.result.to high o.other (omega arith) m.2 above h.leads cuts m.1
+    edge_merged old keys nodes c.args.self.now.root c.args.node.now c.args.id.now c.args.byte h.key h.shape (loses_same old keys c.args.id.now k h.key loses h.key_is) h.node h.is h.low
+    (at c.join_child.new.nodes) m.0 (at c.merge.new.self.nodes) c.merge.new.self.root c.other_edge-other.result.byte c.other_edge-other.result.to high o.other (omega arith) m.2 above h.leads cuts m.1
