@@ -1,11 +1,16 @@
 -- A closure that may be called on each pair of a list, in turn.
-use Rattle.std.proofs.Common.{◌≡◌, ◌∙◌, List, [], ◌∷◌, ◌++◌, Bool, refl, sym, ap, subst}
+use Rattle.std.proofs.Common.{◌∙◌, ℕ, List, [], ◌∷◌, ◌++◌, Bool, refl, sym, ap, subst}
 use Rattle.std.specs.Borrow.{Bor, MutBor}
 use Rattle.std.proofs.lemmas.List.Elements.{All-head, All-tail}
 use Rattle.std.specs.List.{All, FoldsTo}
 use Rattle.std.specs.Map.Calls.{CallableOnEachPair, CalledAtPair, SomeCallAtPair, TakesPair}
-use denote.Param.Members.{Mut}
+use denote.Param.Members.{Mut, Called}
 use denote.Param.Always.{always_mut, mut_next}
+use Rattle.art_tree.specs.Leaves.{Numbered}
+use Rattle.art_tree.specs.Pairs.{pairs_of}
+use Rattle.art_walk.specs.declared.cursor.Cursor.{Cursor}
+use Rattle.art_walk.specs.Cursor.{leaves_left}
+use Rattle.art_walk.proofs.Passing.{in_turn, Passed, SameLeft}
 
 -- a fact that holds of all items holds of the one in the middle
 pub middle : {X : Type 0} (P : X → Type 0) (before after : List X) (x : X) → All P (before ++ x ∷ after) → P x
@@ -16,14 +21,20 @@ module _ {F K V : Type 0} (g : Mut F (Bor K × (MutBor V × Unit {0})) (Bool × 
   abbrev pub Callable : F → List (K × V) → Type 0
   Callable = CallableOnEachPair (CalledAtPair g) (TakesPair g)
 
-  module _ (f : F) (p : K × V) (ps rest : List (K × V)) (first : ps ≡ p ∷ rest) (can : Callable f ps) where
-    -- the closure may be called on the first pair
-    pub callable_first : TakesPair g f p.0 p.1
-    callable_first = can.at [] rest f p.0 p.1 first refl
+  -- a call on the pair to which two references point
+  pub called_at : (f : F) (key : Bor K) (value left : MutBor V) (b : Bool) (f' : F) → Called g f (key, (value, tt)) (b, (left, tt)) f' → CalledAtPair g f key.now value.now b left.now f'
+  called_at f key value left b f' m = record { key = key; value = value; shows = (refl, refl); left = left; called = m; leaves = refl }
+
+  module _ {is_front : Bool} {ps : List (Numbered K V)} {old new : Cursor} {id : ℕ} {y : K × V} (p : Passed is_front ps old new id y) (f : F) (can : Callable f (pairs_of (in_turn is_front (leaves_left old ps)))) where
+    -- the closure may be called on the pair that was passed
+    pub callable_passed : TakesPair g f y.0 y.1
+    callable_passed = can.at [] (pairs_of (in_turn is_front (leaves_left new ps))) f y.0 y.1 (ap pairs_of p.turned) refl
 
     -- and then on the others, in the state that this call left
-    pub callable_others : (b : Bool) (w : V) (h : F) → CalledAtPair g f p.0 p.1 b w h → (others : List (K × V)) → others ≡ rest → Callable h others
-    callable_others b w h call others same = record { at = λ before after f' k v e r. can.at (p ∷ before) after f' k v (first ∙ ap (λ l. p ∷ l) (sym same ∙ e)) (h, (b, w, call), r) }
+    pub callable_left : (b : Bool) (w : V) (h : F) → CalledAtPair g f y.0 y.1 b w h → {qs : List (Numbered K V)} → SameLeft ps new qs → Callable h (pairs_of (in_turn is_front (leaves_left new qs)))
+    callable_left b w h call s = record {
+      at = λ before after f' k v e r. can.at (y ∷ before) after f' k v (ap pairs_of p.turned ∙ ap (λ l. y ∷ l) (ap (λ l. pairs_of (in_turn is_front l)) (sym s.same) ∙ e)) (h, (b, w, call), r);
+    }
 
   still : (before : List (K × V)) (f f' : F) → FoldsTo (SomeCallAtPair (CalledAtPair g)) f before f' → always_mut g f → always_mut g f'
   still [] f f' e h = subst (always_mut g) e h

@@ -3,7 +3,7 @@ use Rattle.std.proofs.Common.{◌≡◌, ℕ, List, [], ◌∷◌, ◌++◌, Opt
 use Rattle.std.proofs.lemmas.Bool.Decides.{eqb_tells}
 use Rattle.art_tree.specs.Leaves.{Numbered, leaf_in, Has, Lacks, AreDistinct, without_number, with_value}
 use Rattle.std.proofs.lemmas.Bool.{ne_eqb}
-use Rattle.art_tree.proofs.CallerLemmas.{Has-tail, Lacks-from_leaf_in, AreDistinct-parts, distinct_parts, AreDistinct-without_number, AreDistinct-with_value, numbers-with_value, same_first, same_last}
+use Rattle.art_tree.proofs.CallerLemmas.{Has-tail, Lacks-from_leaf_in, AreDistinct-parts, AreDistinct-without_number, AreDistinct-with_value, numbers-with_value, same_first, same_last}
 use Rattle.art_walk.specs.declared.cursor.Cursor.{Cursor}
 use Rattle.art_walk.specs.Cursor.{span_of, ends_left, EndsFit, leaves_left, FitsIn}
 use Rattle.art_tree.proofs.Spans.{Cut, cut_span, cut_is_span, span_cut}
@@ -22,14 +22,6 @@ module _ {K V : Type 0} where
   -- no number occurs twice among the pairs that are left
   pub left_distinct : (c : Cursor) (ps : List (Numbered K V)) → AreDistinct ps → FitsIn c ps → AreDistinct (leaves_left c ps)
   left_distinct c ps d f = ends_distinct c.ends ps d f
-
-  -- the number of the first pair is not among those left after it
-  pub first_gone : (old new : List (Numbered K V)) (id : ℕ) (x : K × V) → AreDistinct old → old ≡ (id, x) ∷ new → Lacks new id
-  first_gone old new id x d e = (subst AreDistinct e d).0
-
-  -- nor is the number of the last pair among those left before it
-  pub last_gone : (old new : List (Numbered K V)) (id : ℕ) (x : K × V) → AreDistinct old → old ≡ new ++ (id, x) ∷ [] → Lacks new id
-  last_gone old new id x d e = (distinct_parts new [] (id, x) (subst AreDistinct e d)).0
 
   -- ---- a pair that is not left is removed
 

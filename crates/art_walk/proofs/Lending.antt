@@ -1,5 +1,5 @@
 -- A pair that a walk has passed and returned by a mutable reference.
-use Rattle.std.proofs.Common.{◌≡◌, ◌≢◌, ℕ, ◌+◌, ◌-◌, suc, List, [], ◌∷◌, ◌++◌, length, Bool, true, false, cond, Option, Some, None, option_map, refl, sym, ap, ◌∙◌, subst, arith, length-append}
+use Rattle.std.proofs.Common.{◌≡◌, ◌≢◌, ℕ, ◌-◌, suc, List, [], ◌∷◌, ◌++◌, length, Bool, true, false, cond, Option, Some, None, option_map, refl, sym, ap, ◌∙◌, subst, arith}
 use Rattle.std.specs.Option.{is_none}
 use Rattle.std.specs.Prelude.{is_some as has_value}
 use Rattle.std.proofs.lemmas.Grind.{common_steps}
@@ -10,10 +10,9 @@ use Rattle.art_tree.proofs.CallerLemmas.{Lacks-from_leaf_in, Lacks-parts}
 use Rattle.art_walk.specs.declared.cursor.Cursor.{Cursor}
 use Rattle.art_walk.specs.Cursor.{from_number, through_number, EndsFit, ends_left, leaves_left, FitsIn, PassesFirst, PassesLast}
 use Rattle.art_walk.specs.Lent.{numbers, bare, ends_fit, lent_fits, walk_fits, count_fits, written_all, IsLent, LentFirst, LentLast, written_last, numbers_written}
-use Rattle.art_walk.proofs.Changes.{left_without}
+use Rattle.art_walk.proofs.Changes.{left_with_passed, left_without}
 use Rattle.art_walk.proofs.Steps.{some_inj}
-use Rattle.art_walk.proofs.Passing.{first_passed, first_named, last_passed, last_named}
-use Rattle.art_walk.proofs.Asking.{written_left}
+use Rattle.art_walk.proofs.Passing.{put_back, length-put_back, Passed, passed_at, same_written, fewer_left}
 
 -- ---- a clause about the value that was returned
 
@@ -128,128 +127,92 @@ module _ {K V : Type 0} where
   written_after f [] ps p = refl
   written_after f (q ∷ left) ps p = written_after f left (with_value ps q.0 (f q.1)) p
 
+  -- the value that is written last may as well be written first
+  written_put_back : (is_front : Bool) (f : K × V → V) (left ps : List (Numbered K V)) (p : Numbered K V) → Lacks left p.0 → written_all f (put_back is_front p left) ps ≡ written_all f left (with_value ps p.0 (f p.1))
+  written_put_back true f left ps p lacks = refl
+  written_put_back false f left ps p lacks = written_after f left ps p ∙ sym (written_past f left ps p.0 (f p.1) lacks)
+
   -- ---- a cursor that is moved on
 
   fewer_lent : (was : Option ℕ) (ps left after : List (Numbered K V)) → ((i : ℕ) → Lacks left i → Lacks after i) → LentIn was ps left → LentIn was ps after
   fewer_lent None ps left after h l = tt
   fewer_lent (Some i) ps left after h l = (l.0, h i l.1)
 
-  module _ (ps : List (Numbered K V)) (old new : Cursor) (was : Option ℕ) (test : walk_fits old was (numbers ps) ≡ true) (fits : FitsIn new ps) where
-    -- past the first pair, the cursor still fits
-    pub moved_first : (o : Option ℕ) → PassesFirst (leaves_left old ps) o (leaves_left new ps) → walk_fits new was (numbers ps) ≡ true
-    moved_first o passes = to_test new was ps fits (fewer_lent was ps (leaves_left old ps) (leaves_left new ps) (go o passes) (lent_from_test old was ps test))
-      where
-        go : (o : Option ℕ) → PassesFirst (leaves_left old ps) o (leaves_left new ps) → (i : ℕ) → Lacks (leaves_left old ps) i → Lacks (leaves_left new ps) i
-        go None e i l = subst (λ (l : List (Numbered K V)). Lacks l i) (e.0 ∙ sym e.1) l
-        go (Some id) e i l = (subst (λ (l : List (Numbered K V)). Lacks l i) e.1 l).1
+  -- the first pair is passed, or the last
+  abbrev pub Passes : Bool → List (Numbered K V) → Option ℕ → List (Numbered K V) → Type 0
+  Passes true old o new = PassesFirst old o new
+  Passes false old o new = PassesLast old o new
 
-    -- and past the last pair
-    pub moved_last : (o : Option ℕ) → PassesLast (leaves_left old ps) o (leaves_left new ps) → walk_fits new was (numbers ps) ≡ true
-    moved_last o passes = to_test new was ps fits (fewer_lent was ps (leaves_left old ps) (leaves_left new ps) (go o passes) (lent_from_test old was ps test))
-      where
-        go : (o : Option ℕ) → PassesLast (leaves_left old ps) o (leaves_left new ps) → (i : ℕ) → Lacks (leaves_left old ps) i → Lacks (leaves_left new ps) i
-        go None e i l = subst (λ (l : List (Numbered K V)). Lacks l i) (e.0 ∙ sym e.1) l
-        go (Some id) e i l = (Lacks-parts (leaves_left new ps) [] (id, e.0) i (subst (λ (l : List (Numbered K V)). Lacks l i) e.1 l)).0
+  still_lacks : (is_front : Bool) (old new : List (Numbered K V)) (o : Option ℕ) → Passes is_front old o new → (i : ℕ) → Lacks old i → Lacks new i
+  still_lacks true old new None e i l = subst (λ (l : List (Numbered K V)). Lacks l i) (e.0 ∙ sym e.1) l
+  still_lacks false old new None e i l = subst (λ (l : List (Numbered K V)). Lacks l i) (e.0 ∙ sym e.1) l
+  still_lacks true old new (Some id) e i l = (subst (λ (l : List (Numbered K V)). Lacks l i) e.1 l).1
+  still_lacks false old new (Some id) e i l = (Lacks-parts new [] (id, e.0) i (subst (λ (l : List (Numbered K V)). Lacks l i) e.1 l)).0
+
+  -- past a pair, the cursor still fits
+  pub moved : (is_front : Bool) (ps : List (Numbered K V)) (old new : Cursor) (was : Option ℕ) → walk_fits old was (numbers ps) ≡ true → FitsIn new ps → (o : Option ℕ) → Passes is_front (leaves_left old ps) o (leaves_left new ps) → walk_fits new was (numbers ps) ≡ true
+  moved is_front ps old new was test fits o passes =
+      to_test new was ps fits (fewer_lent was ps (leaves_left old ps) (leaves_left new ps) (still_lacks is_front (leaves_left old ps) (leaves_left new ps) o passes) (lent_from_test old was ps test))
 
   -- ---- the pair that is passed
 
-  module _ (ps : List (Numbered K V)) (distinct : AreDistinct ps) (old new : Cursor) (was : Option ℕ) (test : walk_fits old was (numbers ps) ≡ true) (fits : FitsIn new ps) (id : ℕ) (there : Has ps id) where
-    pub first_fits_now : (x : K × V) × (leaves_left old ps ≡ (id, x) ∷ leaves_left new ps) → walk_fits new (Some id) (numbers ps) ≡ true
-    first_fits_now passed = let n = some_of (leaf_in ps id) there in to_test new (Some id) ps fits (there, first_passed ps distinct old new (from_test old was ps test) fits id n.0 n.1 passed)
-
-    pub last_fits_now : (x : K × V) × (leaves_left old ps ≡ leaves_left new ps ++ (id, x) ∷ []) → walk_fits new (Some id) (numbers ps) ≡ true
-    last_fits_now passed = let n = some_of (leaf_in ps id) there in to_test new (Some id) ps fits (there, last_passed ps distinct old new (from_test old was ps test) fits id n.0 n.1 passed)
+  -- and it fits with this pair as the one returned last
+  pub fits_now : (is_front : Bool) (ps : List (Numbered K V)) → AreDistinct ps → (old new : Cursor) (was : Option ℕ) → walk_fits old was (numbers ps) ≡ true → FitsIn new ps → (id : ℕ) → Has ps id → (x : K × V) × (leaves_left old ps ≡ put_back is_front (id, x) (leaves_left new ps)) → walk_fits new (Some id) (numbers ps) ≡ true
+  fits_now is_front ps distinct old new was test fits id there passed =
+      let n = some_of (leaf_in ps id) there in
+      to_test new (Some id) ps fits (there, (passed_at is_front ps old new distinct (from_test old was ps test) fits id n.0 n.1 passed).lacks)
 
   -- ---- the pair that is returned
 
-  module _ (ps : List (Numbered K V)) (distinct : AreDistinct ps) (old new : Cursor) (was : Option ℕ) (test : walk_fits old was (numbers ps) ≡ true) (fits : FitsIn new ps) (id : ℕ) (v : V) (value : option_map (λ (p : K × V). p.1) (leaf_in ps id) ≡ Some v) where
-    -- its key
-    abbrev pub lent_key : K
+  module _ (is_front : Bool) (ps : List (Numbered K V)) (distinct : AreDistinct ps) (old new : Cursor) (was : Option ℕ) (test : walk_fits old was (numbers ps) ≡ true) (fits : FitsIn new ps) (id : ℕ) (v : V) (value : option_map (λ (p : K × V). p.1) (leaf_in ps id) ≡ Some v) (passed : (x : K × V) × (leaves_left old ps ≡ put_back is_front (id, x) (leaves_left new ps))) where
+    abbrev lent_key : K
     lent_key = (mapped_some (λ (p : K × V). p.1) (leaf_in ps id) v value).0.0
 
-    pub lent_named : leaf_in ps id ≡ Some (lent_key, v)
-    lent_named = let m = mapped_some (λ (p : K × V). p.1) (leaf_in ps id) v value in m.1 ∙ ap (λ u. Some (m.0.0, u)) m.2
+    passed_it : Passed is_front ps old new id (lent_key, v)
+    passed_it =
+        let m = mapped_some (λ (p : K × V). p.1) (leaf_in ps id) v value in
+        passed_at is_front ps old new distinct (from_test old was ps test) fits id (lent_key, v) (m.1 ∙ ap (λ u. Some (m.0.0, u)) m.2) passed
 
-    has_it : Has ps id
-    has_it = is_some (leaf_in ps id) (lent_key, v) lent_named
+    -- the pairs that are left once a value is written to it
+    abbrev after : V → List (Numbered K V)
+    after w = leaves_left new (with_value ps id w)
 
-    fits_now : Lacks (leaves_left new ps) id → walk_fits new (Some id) (numbers ps) ≡ true
-    fits_now lacks = to_test new (Some id) ps fits (has_it, lacks)
+    pub fits_with : (w : V) → walk_fits new (Some id) (numbers (with_value ps id w)) ≡ true
+    fits_with w = ap (walk_fits new (Some id)) (numbers_written (Some id) ps w) ∙ to_test new (Some id) ps fits (is_some (leaf_in ps id) (lent_key, v) passed_it.named, passed_it.lacks)
 
-    fits_with : Lacks (leaves_left new ps) id → (w : V) → walk_fits new (Some id) (numbers (with_value ps id w)) ≡ true
-    fits_with lacks w = ap (walk_fits new (Some id)) (numbers_written (Some id) ps w) ∙ fits_now lacks
-
-    module _ (passed : (x : K × V) × (leaves_left old ps ≡ (id, x) ∷ leaves_left new ps)) where
-      lacks_first : Lacks (leaves_left new ps) id
-      lacks_first = first_passed ps distinct old new (from_test old was ps test) fits id (lent_key, v) lent_named passed
-
-      pub first_fits_with : (w : V) → walk_fits new (Some id) (numbers (with_value ps id w)) ≡ true
-      first_fits_with = fits_with lacks_first
-
-      abbrev first_after : V → List (Numbered K V)
-      first_after w = leaves_left new (with_value ps id w)
-
-      first_same : (w : V) → first_after w ≡ leaves_left new ps
-      first_same w = written_left ps distinct new fits id (lent_key, v) w lacks_first
-
-      pub first_splits : (w : V) → leaves_left old ps ≡ (id, (lent_key, v)) ∷ first_after w
-      first_splits w =
-          first_named ps distinct old new (from_test old was ps test) fits id (lent_key, v) lent_named passed
-          ∙ ap (λ l. (id, (lent_key, v)) ∷ l) (sym (first_same w))
-
-      pub first_lent : (w : V) → IsLent ps (with_value ps id w) (leaves_left old ps) (first_after w) id lent_key v w
-      first_lent w = record {
-        named = lent_named;
-        written = refl;
-        passed = subst (λ (l : List (Numbered K V)). Lacks l id) (sym (first_same w)) lacks_first;
-        all_written = λ f e. ap (λ u. written_all f (first_after w) (with_value ps id u)) (sym e) ∙ sym (ap (λ l. written_all f l ps) (first_splits w));
-      }
-
-      -- it is the first of the pairs that were left
-      pub is_lent_first : (w : V) → LentFirst ps (with_value ps id w) (leaves_left old ps) (first_after w) (Some id) v w
-      is_lent_first w = record { number = id; key = lent_key; splits = first_splits w; lent = first_lent w; is_last = refl }
-
-      pub first_lent_count : (w : V) (n : ℕ) → n ≡ length (leaves_left old ps) → n - 1 ≡ length (first_after w)
-      first_lent_count w n e = let h : n ≡ suc (length (first_after w)) = e ∙ ap length (first_splits w) in omega arith
-
-    module _ (passed : (x : K × V) × (leaves_left old ps ≡ leaves_left new ps ++ (id, x) ∷ [])) where
-      lacks_last : Lacks (leaves_left new ps) id
-      lacks_last = last_passed ps distinct old new (from_test old was ps test) fits id (lent_key, v) lent_named passed
-
-      pub last_fits_with : (w : V) → walk_fits new (Some id) (numbers (with_value ps id w)) ≡ true
-      last_fits_with = fits_with lacks_last
-
-      abbrev last_after : V → List (Numbered K V)
-      last_after w = leaves_left new (with_value ps id w)
-
-      last_same : (w : V) → last_after w ≡ leaves_left new ps
-      last_same w = written_left ps distinct new fits id (lent_key, v) w lacks_last
-
-      pub last_splits : (w : V) → leaves_left old ps ≡ last_after w ++ (id, (lent_key, v)) ∷ []
-      last_splits w =
-          last_named ps distinct old new (from_test old was ps test) fits id (lent_key, v) lent_named passed
-          ∙ ap (λ l. l ++ (id, (lent_key, v)) ∷ []) (sym (last_same w))
-
-      pub last_lent : (w : V) → IsLent ps (with_value ps id w) (leaves_left old ps) (last_after w) id lent_key v w
-      last_lent w =
-          let lacks = subst (λ (l : List (Numbered K V)). Lacks l id) (sym (last_same w)) lacks_last in
+    -- its key, its place among the pairs that were left, and what is true once it is written
+    lent_with : (w : V) → (key : K) × (leaves_left old ps ≡ put_back is_front (id, (key, v)) (after w)) × IsLent ps (with_value ps id w) (leaves_left old ps) (after w) id key v w
+    lent_with w =
+        let same = (same_written passed_it w).same in
+        let splits : leaves_left old ps ≡ put_back is_front (id, (lent_key, v)) (after w) = passed_it.splits ∙ ap (put_back is_front (id, (lent_key, v))) (sym same) in
+        let lacks = subst (λ (l : List (Numbered K V)). Lacks l id) (sym same) passed_it.lacks in (
+          lent_key,
+          splits,
           record {
-            named = lent_named;
+            named = passed_it.named;
             written = refl;
             passed = lacks;
             all_written = λ f e.
-                written_past f (last_after w) ps id w lacks ∙ ap (λ u. with_value (written_all f (last_after w) ps) id u) (sym e)
-                ∙ sym (ap (λ l. written_all f l ps) (last_splits w) ∙ written_after f (last_after w) ps (id, (lent_key, v)));
-          }
+                ap (λ u. written_all f (after w) (with_value ps id u)) (sym e)
+                ∙ sym (ap (λ l. written_all f l ps) splits ∙ written_put_back is_front f (after w) ps (id, (lent_key, v)) lacks);
+          },
+        )
 
-      -- it is the last of the pairs that were left
-      pub is_lent_last : (w : V) → LentLast ps (with_value ps id w) (leaves_left old ps) (last_after w) (Some id) v w
-      is_lent_last w = record { number = id; key = lent_key; splits = last_splits w; lent = last_lent w; is_last = refl }
+    pub lent_count : (w : V) (n : ℕ) → n ≡ length (leaves_left old ps) → n - 1 ≡ length (after w)
+    lent_count w n e = let h : suc (length (after w)) ≡ length (leaves_left old ps) = fewer_left passed_it (same_written passed_it w) in omega arith
 
-      pub last_lent_count : (w : V) (n : ℕ) → n ≡ length (leaves_left old ps) → n - 1 ≡ length (last_after w)
-      last_lent_count w n e =
-          let h : n ≡ length (last_after w) + 1 = e ∙ ap length (last_splits w) ∙ length-append (last_after w) ((id, (lent_key, v)) ∷ []) in
-          omega arith
+  module _ (ps : List (Numbered K V)) (distinct : AreDistinct ps) (old new : Cursor) (was : Option ℕ) (test : walk_fits old was (numbers ps) ≡ true) (fits : FitsIn new ps) (id : ℕ) (v : V) (value : option_map (λ (p : K × V). p.1) (leaf_in ps id) ≡ Some v) where
+    -- it is the first of the pairs that were left
+    pub is_lent_first : (x : K × V) × (leaves_left old ps ≡ (id, x) ∷ leaves_left new ps) → (w : V) → LentFirst ps (with_value ps id w) (leaves_left old ps) (leaves_left new (with_value ps id w)) (Some id) v w
+    is_lent_first passed w =
+        let l = lent_with true ps distinct old new was test fits id v value passed w in
+        record { number = id; key = l.0; splits = l.1; lent = l.2; is_last = refl }
+
+    -- or it is the last of them
+    pub is_lent_last : (x : K × V) × (leaves_left old ps ≡ leaves_left new ps ++ (id, x) ∷ []) → (w : V) → LentLast ps (with_value ps id w) (leaves_left old ps) (leaves_left new (with_value ps id w)) (Some id) v w
+    is_lent_last passed w =
+        let l = lent_with false ps distinct old new was test fits id v value passed w in
+        record { number = id; key = l.0; splits = l.1; lent = l.2; is_last = refl }
 
   -- ---- the pair returned last, again
 
@@ -264,7 +227,7 @@ module _ {K V : Type 0} where
       where
         go : (o : Option ℕ) → LentIn o ps (leaves_left c ps) → leaves_left c (written_last o ps w) ≡ leaves_left c ps
         go None h = refl
-        go (Some i) h = written_left ps distinct c (from_test c lent ps test) i (let x = (some_of (leaf_in ps i) h.0).0 in x) w h.1
+        go (Some i) h = left_with_passed c ps i w distinct (from_test c lent ps test) h.1
 
   -- ---- the pair returned last is removed, or kept
 
@@ -301,9 +264,5 @@ module _ {K V : Type 0} where
     count_is h = eqb-true left (length (leaves_left c (bare (numbers ps)))) (right_of _ _ h) ∙ left_lengths c ps
 
   -- one pair less is left
-  module _ (old new : Cursor) (ps : List (Numbered K V)) (id left : ℕ) (count : left ≡ length (leaves_left old ps)) where
-    pub fewer_after_first : (x : K × V) × (leaves_left old ps ≡ (id, x) ∷ leaves_left new ps) → left ≡ suc (length (leaves_left new ps))
-    fewer_after_first e = count ∙ ap length e.1
-
-    pub fewer_after_last : (x : K × V) × (leaves_left old ps ≡ leaves_left new ps ++ (id, x) ∷ []) → left ≡ suc (length (leaves_left new ps))
-    fewer_after_last e = let h : left ≡ length (leaves_left new ps) + 1 = count ∙ ap length e.1 ∙ length-append (leaves_left new ps) ((id, e.0) ∷ []) in omega arith
+  pub fewer_after : (is_front : Bool) (old new : Cursor) (ps : List (Numbered K V)) (id left : ℕ) → left ≡ length (leaves_left old ps) → (x : K × V) × (leaves_left old ps ≡ put_back is_front (id, x) (leaves_left new ps)) → left ≡ suc (length (leaves_left new ps))
+  fewer_after is_front old new ps id left count e = count ∙ ap length e.1 ∙ length-put_back is_front (id, e.0) (leaves_left new ps)

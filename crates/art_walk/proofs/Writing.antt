@@ -1,19 +1,23 @@
 -- A closure is called on each value that a cursor has left, one call after another.
-use Rattle.std.proofs.Common.{◌≡◌, ℕ, List, [], ◌∷◌, refl, sym, ap, ◌∙◌, subst}
+use Rattle.std.proofs.Common.{◌≡◌, ℕ, true, List, [], ◌∷◌, refl, sym, ap, ◌∙◌, subst}
 use Rattle.std.specs.Borrow.{Bor, MutBor}
 use denote.Param.Members.{Mut, Called}
 use Rattle.art_tree.specs.Leaves.{Numbered, with_value}
+use Rattle.art_tree.specs.Pairs.{pairs_of}
+use Rattle.art_walk.specs.declared.cursor.Cursor.{Cursor}
+use Rattle.art_walk.specs.Cursor.{leaves_left}
 use Rattle.art_walk.specs.EachWritten.{CallableInTurn, WritesLeft, LeavesValue, LeavesPair}
+use Rattle.art_walk.proofs.Passing.{Passed, same_written}
 
 module _ {F K V : Type 0} (R : F → K × V → V → F → Type 0) (Q : F → K × V → Type 0) where
-  module _ (f : F) (x : K × V) (xs rest : List (K × V)) (first : xs ≡ x ∷ rest) (can : CallableInTurn R Q f xs) where
-    -- it may be called on the first pair
-    pub callable_first : Q f x
-    callable_first = can.at [] rest f x first refl
+  module _ {ps : List (Numbered K V)} {old new : Cursor} {id : ℕ} {y : K × V} (p : Passed true ps old new id y) (f : F) (can : CallableInTurn R Q f (pairs_of (leaves_left old ps))) where
+    -- it may be called on the pair that was passed
+    pub callable_passed : Q f y
+    callable_passed = can.at [] (pairs_of (leaves_left new ps)) f y (ap pairs_of p.splits) refl
 
     -- and then on the others, in the state that this call left
-    pub callable_others : (w : V) (h : F) → R f x w h → (others : List (K × V)) → others ≡ rest → CallableInTurn R Q h others
-    callable_others w h call others same = record { at = λ before after f' y e r. can.at (x ∷ before) after f' y (first ∙ ap (λ l. x ∷ l) (sym same ∙ e)) (h, (w, call), r) }
+    pub callable_left : (w : V) (h : F) → R f y w h → CallableInTurn R Q h (pairs_of (leaves_left new (with_value ps id w)))
+    callable_left w h call = record { at = λ before after f' x e r. can.at (y ∷ before) after f' x (ap pairs_of p.splits ∙ ap (λ l. y ∷ l) (ap pairs_of (sym (same_written p w).same) ∙ e)) (h, (w, call), r) }
 
 module _ {F K V : Type 0} (R : F → K × V → V → F → Type 0) where
   -- if the rest is written from here on, all is written as it was to be from the start
@@ -27,17 +31,17 @@ module _ {F K V : Type 0} (R : F → K × V → V → F → Type 0) where
     pub writing_end : left ≡ [] → WritesLeft R first from start ps
     writing_end e = o.then ps (subst (λ (l : List (Numbered K V)). WritesLeft R l ps f ps) (sym e) (record { values = []; after = f; called = refl; written = refl }))
 
-    pub writing_step : (id : ℕ) (y : K × V) (w : V) (f' : F) (left' after : List (Numbered K V)) → R f y w f' → left ≡ (id, y) ∷ left' → after ≡ left' → Writing first from start after (with_value ps id w) f'
-    writing_step id y w f' left' after asks splits same = record {
-      then = λ new r.
-          let r' = subst (λ (l : List (Numbered K V)). WritesLeft R l (with_value ps id w) f' new) same r in
-          o.then new (subst (λ (l : List (Numbered K V)). WritesLeft R l ps f new) (sym splits) (record {
-            values = w ∷ r'.values;
-            after = r'.after;
-            called = (f', asks, r'.called);
-            written = r'.written;
-          }));
-    }
+  pub writing_step : {first from : List (Numbered K V)} {start : F} {ps : List (Numbered K V)} {old new : Cursor} {id : ℕ} {y : K × V} {f : F} → Writing first from start (leaves_left old ps) ps f → Passed true ps old new id y → (w : V) (h : F) → R f y w h → Writing first from start (leaves_left new (with_value ps id w)) (with_value ps id w) h
+  writing_step {ps} {new} {id} {f} o p w h call = record {
+    then = λ all r.
+        let r' = subst (λ (l : List (Numbered K V)). WritesLeft R l (with_value ps id w) h all) (same_written p w).same r in
+        o.then all (subst (λ (l : List (Numbered K V)). WritesLeft R l ps f all) (sym p.splits) (record {
+          values = w ∷ r'.values;
+          after = r'.after;
+          called = (h, call, r'.called);
+          written = r'.written;
+        }));
+  }
 
 -- ---- the closure's call
 

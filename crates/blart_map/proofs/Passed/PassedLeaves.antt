@@ -1,5 +1,5 @@
 -- A leaf that a cursor over a map has passed, and its removal.
-use Rattle.std.proofs.Common.{◌≡◌, ℕ, List, Option, Some, None, IfSome, refl, sym, ap, ◌∙◌, subst}
+use Rattle.std.proofs.Common.{◌≡◌, ℕ, true, false, List, Option, Some, None, IfSome, refl, sym, ap, ◌∙◌, subst}
 use Rattle.blart_keys.specs.Content.{IsContent, without}
 use Rattle.blart_keys.specs.Steps.{bytes as pair_bytes}
 use Rattle.blart_keys.proofs.ContentLemmas.{at_member}
@@ -11,7 +11,7 @@ use Rattle.art_tree.proofs.CallerLemmas.{Member-from_leaf_in}
 use Rattle.art_walk.specs.declared.cursor.Cursor.{Cursor}
 use Rattle.art_walk.specs.Cursor.{leaves_left, FitsIn, PassesFirst, PassesLast}
 use Rattle.art_walk.proofs.Changes.{left_without}
-use Rattle.art_walk.proofs.Passing.{first_passed, first_named, last_passed, last_named}
+use Rattle.art_walk.proofs.Passing.{passed_at}
 use Rattle.blart_map.specs.Passed.{WasFirst, WasLast, StaysLeft}
 use Rattle.art_insert.proofs.Numbers.{removed_pairs, pairs_content}
 
@@ -21,23 +21,15 @@ module _ {K V : Type 0} (ps : List (Numbered K V)) (distinct : AreDistinct ps) w
     was_first None has passes = tt
     was_first (Some id) has passes =
         let s = some_of (leaf_in ps id) has in
-        record {
-          pair = s.0;
-          named = s.1;
-          splits = first_named ps distinct old new before fits id s.0 s.1 passes;
-          passed = first_passed ps distinct old new before fits id s.0 s.1 passes;
-        }
+        let p = passed_at true ps old new distinct before fits id s.0 s.1 passes in
+        record { pair = s.0; named = s.1; splits = p.splits; passed = p.lacks }
 
     pub was_last : (r : Option ℕ) → IfSome r (λ id. Has ps id) → PassesLast (leaves_left old ps) r (leaves_left new ps) → IfSome r (λ id. WasLast ps old id new)
     was_last None has passes = tt
     was_last (Some id) has passes =
         let s = some_of (leaf_in ps id) has in
-        record {
-          pair = s.0;
-          named = s.1;
-          splits = last_named ps distinct old new before fits id s.0 s.1 passes;
-          passed = last_passed ps distinct old new before fits id s.0 s.1 passes;
-        }
+        let p = passed_at false ps old new distinct before fits id s.0 s.1 passes in
+        record { pair = s.0; named = s.1; splits = p.splits; passed = p.lacks }
 
   pub stays_left : (id : ℕ) (rs : List (Numbered K V)) → rs ≡ without_number ps id → StaysLeft ps id rs
   stays_left id rs e c fits lacks = subst (λ (l : List (Numbered K V)). FitsIn c l × (leaves_left c l ≡ leaves_left c ps)) (sym e) (left_without c ps id distinct fits lacks)

@@ -1,16 +1,13 @@
-use Rattle.std.proofs.Common.{◌≤◌, length}
-use Rattle.art_tree.specs.Leaves.{AreDistinct}
-use Rattle.art_tree.specs.Pairs.{pairs_of}
-use Rattle.art_walk.specs.Cursor.{leaves_left, FitsIn}
-use Rattle.art_walk.specs.Extracting.{ExtractsFirstTrue, stands_at}
-use Rattle.art_walk.proofs.Callable.{Callable}
+use Rattle.std.proofs.Common.{true, length}
+use Rattle.art_walk.specs.Cursor.{leaves_left}
+use Rattle.art_walk.specs.Extracting.{stands_at}
+use Rattle.art_walk.proofs.Extracted.{Extracting}
 use Rattle.art_walk.proofs.extracting.extract_first.Given as goal
 
 abbrev pub invariant-pairs : goal.invariant-pairs
 invariant-pairs g l =
-    Callable g.F.FnMut l.pred (pairs_of (leaves_left l.cursor l.tree.pairs)) × FitsIn l.cursor l.tree.pairs × AreDistinct l.tree.pairs
-    × (length (leaves_left l.cursor l.tree.pairs) ≤ length (leaves_left l.initial.cursor l.initial.tree.pairs))
-    × ((r : _) (S' : _) (f' : _) (left : _) → ExtractsFirstTrue g.F.FnMut (stands_at l.tree.pairs l.pred (leaves_left l.cursor l.tree.pairs)) r (stands_at S' f' left) → ExtractsFirstTrue g.F.FnMut (stands_at l.initial.tree.pairs l.initial.pred (leaves_left l.initial.cursor l.initial.tree.pairs)) r (stands_at S' f' left))
+    let all = leaves_left l.initial.cursor l.initial.tree.pairs in
+    Extracting g.F.FnMut true (stands_at l.initial.tree.pairs l.initial.pred all) (length all) l.tree.pairs l.cursor l.pred
 
 abbrev pub decreases-pairs : goal.decreases-pairs
 decreases-pairs g l = length (leaves_left l.cursor l.tree.pairs)

@@ -9,8 +9,13 @@ use Rattle.art_walk.proofs.retaining.retain_by.Given as goal
 
 abbrev pub invariant-pairs : goal.invariant-pairs
 invariant-pairs g l =
-    Callable g.F.FnMut l.f (pairs_of (leaves_left l.cursor l.tree.pairs)) × FitsIn l.cursor l.tree.pairs × AreDistinct l.tree.pairs
-    × Retaining (AsksPair g.F.FnMut) (pairs_of l.initial.tree.pairs) l.initial.f l.tree.pairs (leaves_left l.cursor l.tree.pairs) l.f
+    let left = leaves_left l.cursor l.tree.pairs in
+    record {
+      callable : Callable g.F.FnMut l.f (pairs_of left);
+      fits : FitsIn l.cursor l.tree.pairs;
+      distinct : AreDistinct l.tree.pairs;
+      retaining : Retaining (AsksPair g.F.FnMut) (pairs_of l.initial.tree.pairs) l.initial.f l.tree.pairs left l.f;
+    }
 
 abbrev pub decreases-pairs : goal.decreases-pairs
 decreases-pairs g l = length (leaves_left l.cursor l.tree.pairs)

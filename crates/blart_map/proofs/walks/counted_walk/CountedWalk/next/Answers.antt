@@ -1,6 +1,6 @@
-use Rattle.std.proofs.Common.{refl, lit<, arith, ap, sym, ◌∙◌, ◌-◌, length, Some}
+use Rattle.std.proofs.Common.{true, refl, lit<, arith, ap, sym, ◌∙◌, ◌-◌, length, Some}
 use Rattle.art_tree.specs.Leaves.{with_value}
-use Rattle.art_walk.proofs.Lending.{at_some, never_none, from_test, to_count, count_test, count_is, moved_first, fewer_after_first, first_fits_now, first_fits_with, is_lent_first, first_lent_count}
+use Rattle.art_walk.proofs.Lending.{at_some, never_none, from_test, to_count, count_test, count_is, moved, fewer_after, fits_now, fits_with, is_lent_first, lent_count}
 use Rattle.blart_map.proofs.walks.counted_walk.CountedWalk.next.Goals as goal
 
 pub step-requires : goal.step-requires
@@ -11,7 +11,7 @@ step-requires g c =
 pub overflow_sub-self : goal.overflow_sub-self
 overflow_sub-self g c =
     let s = c.args.self.now in
-    let h = fewer_after_first s.cursor c.step.new.cursor s.map.now c.in_ok-id.id s.left (count_is s.cursor s.lent s.left s.map.now s.fits) c.in_ok-id.ensures.passes in
+    let h = fewer_after true s.cursor c.step.new.cursor s.map.now c.in_ok-id.id s.left (count_is s.cursor s.lent s.left s.map.now s.fits) c.in_ok-id.ensures.passes in
     omega arith
 
 pub invariant_of-self : goal.invariant_of-self
@@ -20,7 +20,7 @@ invariant_of-self g c =
     let ps = s.map.now in
     record {
       fits = to_count c.step.new.cursor s.lent s.left ps
-          (moved_first ps s.cursor c.step.new.cursor s.lent (count_test s.cursor s.lent s.left ps s.fits) c.step.ensures.fits _ c.step.ensures.passes)
+          (moved true ps s.cursor c.step.new.cursor s.lent (count_test s.cursor s.lent s.left ps s.fits) c.step.ensures.fits _ c.step.ensures.passes)
           (count_is s.cursor s.lent s.left ps s.fits ∙ ap length (c.in_err-id.ensures.passes.0 ∙ sym c.in_err-id.ensures.passes.1));
     }
 
@@ -29,10 +29,10 @@ invariant_of-self-2 g c =
     let s = c.args.self.now in
     let ps = s.map.now in
     let new = c.step.new.cursor in
-    let h = fewer_after_first s.cursor new ps c.in_ok-id.id s.left (count_is s.cursor s.lent s.left ps s.fits) c.in_ok-id.ensures.passes in
+    let h = fewer_after true s.cursor new ps c.in_ok-id.id s.left (count_is s.cursor s.lent s.left ps s.fits) c.in_ok-id.ensures.passes in
     record {
       fits = to_count new (Some c.in_ok-id.id) (s.left - 1) ps
-          (first_fits_now ps c.step.ensures.distinct s.cursor new s.lent (count_test s.cursor s.lent s.left ps s.fits) c.in_ok-id.ensures.fits c.in_ok-id.id c.in_ok-id.ensures.there c.in_ok-id.ensures.passes)
+          (fits_now true ps c.step.ensures.distinct s.cursor new s.lent (count_test s.cursor s.lent s.left ps s.fits) c.in_ok-id.ensures.fits c.in_ok-id.id c.in_ok-id.ensures.there c.in_ok-id.ensures.passes)
           (omega arith);
     }
 
@@ -45,8 +45,8 @@ invariant_of-self-lent g c w =
     let id = c.in_ok-id.id in
     let v = c.value_mut.result.now in (
       to_count new (Some c.in_ok-id.id) (s.left - 1) (with_value ps id w)
-          (first_fits_with ps c.step.ensures.distinct s.cursor new s.lent test c.in_ok-id.ensures.fits id v c.value_mut.ensures.value c.in_ok-id.ensures.passes w)
-          (first_lent_count ps c.step.ensures.distinct s.cursor new s.lent test c.in_ok-id.ensures.fits id v c.value_mut.ensures.value c.in_ok-id.ensures.passes w s.left (count_is s.cursor s.lent s.left ps s.fits)),
+          (fits_with true ps c.step.ensures.distinct s.cursor new s.lent test c.in_ok-id.ensures.fits id v c.value_mut.ensures.value c.in_ok-id.ensures.passes w)
+          (lent_count true ps c.step.ensures.distinct s.cursor new s.lent test c.in_ok-id.ensures.fits id v c.value_mut.ensures.value c.in_ok-id.ensures.passes w s.left (count_is s.cursor s.lent s.left ps s.fits)),
       tt,
     )
 

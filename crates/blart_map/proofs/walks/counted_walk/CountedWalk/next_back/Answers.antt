@@ -1,6 +1,6 @@
-use Rattle.std.proofs.Common.{refl, lit<, arith, ap, sym, ◌∙◌, ◌-◌, length, Some}
+use Rattle.std.proofs.Common.{false, refl, lit<, arith, ap, sym, ◌∙◌, ◌-◌, length, Some}
 use Rattle.art_tree.specs.Leaves.{with_value}
-use Rattle.art_walk.proofs.Lending.{at_some, never_none, from_test, to_count, count_test, count_is, moved_last, fewer_after_last, last_fits_now, last_fits_with, is_lent_last, last_lent_count}
+use Rattle.art_walk.proofs.Lending.{at_some, never_none, from_test, to_count, count_test, count_is, moved, fewer_after, fits_now, fits_with, is_lent_last, lent_count}
 use Rattle.blart_map.proofs.walks.counted_walk.CountedWalk.next_back.Goals as goal
 
 pub step_back-requires : goal.step_back-requires
@@ -11,7 +11,7 @@ step_back-requires g c =
 pub overflow_sub-self : goal.overflow_sub-self
 overflow_sub-self g c =
     let s = c.args.self.now in
-    let h = fewer_after_last s.cursor c.step_back.new.cursor s.map.now c.in_ok-id.id s.left (count_is s.cursor s.lent s.left s.map.now s.fits) c.in_ok-id.ensures.passes in
+    let h = fewer_after false s.cursor c.step_back.new.cursor s.map.now c.in_ok-id.id s.left (count_is s.cursor s.lent s.left s.map.now s.fits) c.in_ok-id.ensures.passes in
     omega arith
 
 pub invariant_of-self : goal.invariant_of-self
@@ -20,7 +20,7 @@ invariant_of-self g c =
     let ps = s.map.now in
     record {
       fits = to_count c.step_back.new.cursor s.lent s.left ps
-          (moved_last ps s.cursor c.step_back.new.cursor s.lent (count_test s.cursor s.lent s.left ps s.fits) c.step_back.ensures.fits _ c.step_back.ensures.passes)
+          (moved false ps s.cursor c.step_back.new.cursor s.lent (count_test s.cursor s.lent s.left ps s.fits) c.step_back.ensures.fits _ c.step_back.ensures.passes)
           (count_is s.cursor s.lent s.left ps s.fits ∙ ap length (c.in_err-id.ensures.passes.0 ∙ sym c.in_err-id.ensures.passes.1));
     }
 
@@ -29,10 +29,10 @@ invariant_of-self-2 g c =
     let s = c.args.self.now in
     let ps = s.map.now in
     let new = c.step_back.new.cursor in
-    let h = fewer_after_last s.cursor new ps c.in_ok-id.id s.left (count_is s.cursor s.lent s.left ps s.fits) c.in_ok-id.ensures.passes in
+    let h = fewer_after false s.cursor new ps c.in_ok-id.id s.left (count_is s.cursor s.lent s.left ps s.fits) c.in_ok-id.ensures.passes in
     record {
       fits = to_count new (Some c.in_ok-id.id) (s.left - 1) ps
-          (last_fits_now ps c.step_back.ensures.distinct s.cursor new s.lent (count_test s.cursor s.lent s.left ps s.fits) c.in_ok-id.ensures.fits c.in_ok-id.id c.in_ok-id.ensures.there c.in_ok-id.ensures.passes)
+          (fits_now false ps c.step_back.ensures.distinct s.cursor new s.lent (count_test s.cursor s.lent s.left ps s.fits) c.in_ok-id.ensures.fits c.in_ok-id.id c.in_ok-id.ensures.there c.in_ok-id.ensures.passes)
           (omega arith);
     }
 
@@ -45,8 +45,8 @@ invariant_of-self-lent g c w =
     let id = c.in_ok-id.id in
     let v = c.value_mut.result.now in (
       to_count new (Some c.in_ok-id.id) (s.left - 1) (with_value ps id w)
-          (last_fits_with ps c.step_back.ensures.distinct s.cursor new s.lent test c.in_ok-id.ensures.fits id v c.value_mut.ensures.value c.in_ok-id.ensures.passes w)
-          (last_lent_count ps c.step_back.ensures.distinct s.cursor new s.lent test c.in_ok-id.ensures.fits id v c.value_mut.ensures.value c.in_ok-id.ensures.passes w s.left (count_is s.cursor s.lent s.left ps s.fits)),
+          (fits_with false ps c.step_back.ensures.distinct s.cursor new s.lent test c.in_ok-id.ensures.fits id v c.value_mut.ensures.value c.in_ok-id.ensures.passes w)
+          (lent_count false ps c.step_back.ensures.distinct s.cursor new s.lent test c.in_ok-id.ensures.fits id v c.value_mut.ensures.value c.in_ok-id.ensures.passes w s.left (count_is s.cursor s.lent s.left ps s.fits)),
       tt,
     )
 
