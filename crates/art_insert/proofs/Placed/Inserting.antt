@@ -1,16 +1,16 @@
 -- What a point tells about an insertion at it.
-use Rattle.std.proofs.Common.{◌≡◌, ℕ, true, false, ◌⊎◌, inl, inr, List, [], ◌∷◌, refl, sym, ap, ◌∙◌, subst, Some, None, Ok, option_map, bytes_eq, subst₂}
+use Rattle.std.proofs.Common.{◌≡◌, ℕ, true, false, ◌⊎◌, inl, inr, List, refl, sym, ap, ◌∙◌, subst, Some, None, Ok, option_map, bytes_eq, subst₂}
 use Rattle.std.proofs.lemmas.Bool.{false≢true, false_from_ne_true, or_cases}
 use Rattle.blart_keys.specs.Bytes.{begins, related}
-use Rattle.blart_keys.specs.Content.{IsContent, IsPut, at, conflict, subtree}
+use Rattle.blart_keys.specs.Content.{IsContent, IsPut, at, conflict}
 use Rattle.blart_keys.specs.Keys.{NoFronts}
 use Rattle.blart_keys.specs.Steps.{bytes as pair_bytes, Puts}
-use Rattle.blart_keys.proofs.RankLemmas.{Member, Member-from_Contains, filter_member}
+use Rattle.blart_keys.proofs.RankLemmas.{Member, Member-from_Contains}
 use Rattle.blart_keys.proofs.ContentLemmas.{at_Some, same_item, related-same, stored_no_conflict}
 use Rattle.blart_keys.proofs.PutLemmas.{put_at}
 use Rattle.art_tree.specs.Begins.{Bytes}
 use Rattle.art_tree.specs.Content.{IsOpen}
-use Rattle.art_tree.specs.Leaves.{Numbered, leaf_in, Has, AreDistinct, first_number, with_pair, bytes}
+use Rattle.art_tree.specs.Leaves.{Numbered, leaf_in, Has, AreDistinct, with_pair, bytes}
 use Rattle.art_tree.specs.Points.{IsGood}
 use Rattle.art_tree.specs.Takes.{MayTake}
 use Rattle.art_tree.specs.declared.tree.point.Place.{Place}
@@ -22,6 +22,7 @@ use Rattle.blart_keys.proofs.Options.{is_some}
 use Rattle.blart_keys.proofs.Mapped.{find-map, content_map}
 use Rattle.art_tree.specs.Pairs.{pairs_of}
 use Rattle.art_insert.proofs.Numbers.{cut_at, cut_pairs, exchanged_pairs}
+use Rattle.art_insert.proofs.Related.Thinning.{first_there}
 
 -- a pair may be placed at these points
 pub opens : (point : Point) → (point ≡ Empty) ⊎ ((place : Place) × (point ≡ Free place)) → IsOpen point
@@ -72,14 +73,7 @@ module _ {K V : Type 0} (kb : K → Bytes) (ps : List (Numbered K V)) where
 
       -- the first related leaf exists, and its key is related
       pub related_first : (first last : ℕ) → IsGood kb ps (Related first last) q → (x : K × V) × (leaf_in ps first ≡ Some x) × (related (kb x.0) q ≡ true)
-      related_first first last good =
-          let r = first_member (subtree (bytes kb) ps q) first good.1 in
-          let m = filter_member (λ x. related (bytes kb x) q) ps (first, r.0) r.1 in
-          (r.0, leaf_in-member ps first r.0 distinct m.0, m.1)
-        where
-          first_member : (S : List (Numbered K V)) (i : ℕ) → first_number S ≡ Some i → (x : K × V) × Member (i, x) S
-          first_member [] i e = absurd cc
-          first_member (p ∷ S) i e = let f : p.0 ≡ i = cc in (p.1, inl (λ j. (f j, p.1)))
+      related_first first last good = first_there kb ps content distinct q first last (record { first_is = good.1; last_is = good.2 })
 
     -- ---- the results
 

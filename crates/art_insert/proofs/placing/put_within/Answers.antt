@@ -1,41 +1,15 @@
-use Rattle.std.proofs.Common.{◌∙◌, lit<, ap, sym, subst, Ok, Some}
-use Rattle.art_tree.specs.Adding.{Adds}
-use Rattle.art_tree.specs.Leaves.{with_value}
-use Rattle.art_insert.proofs.Placed.Adding.{added_new, added_conflicts, added_none, stored_has, stored_written}
+use Rattle.std.proofs.Common.{◌∙◌, lit<, ap, sym, Ok, Some}
+use Rattle.art_insert.proofs.Placed.Adding.{added_new, added_conflicts, stored_has, stored_written}
 use Rattle.art_insert.proofs.placing.put_within.Goals as goal
 
 pub returns-in-Placed-clause-put : goal.returns-in-Placed-clause-put
-returns-in-Placed-clause-put g c =
-    let kb = g.K.AsBytes.bytes in
-    let old = c.args.tree.now in
-    let new = c.add_within.new.self in
-    let x : g.row.K.Denot × g.row.V.Denot = (c.args.key, c.args.value) in
-    let a = subst (Adds kb old new x) (ap Ok c.in-Placed.is) c.add_within.ensures.added in
-    added_new kb old new x a
+returns-in-Placed-clause-put g c = added_new _ _ _ _ c.add_within.ensures.added (ap Ok c.in-Placed.is)
 
 pub value_mut-requires : goal.value_mut-requires
-value_mut-requires g c =
-    let kb = g.K.AsBytes.bytes in
-    let old = c.args.tree.now in
-    let new = c.add_within.new.self in
-    let x : g.row.K.Denot × g.row.V.Denot = (c.args.key, c.args.value) in
-    let a = subst (Adds kb old new x) (ap Ok c.in-Stored.is) c.add_within.ensures.added in
-    (lit< tt, stored_has kb old new x c.law.ensures.content c.law.ensures.distinct _ _ _ a)
+value_mut-requires g c = (lit< tt, stored_has _ _ _ _ c.add_within.ensures.added (ap Ok c.in-Stored.is) c.law.ensures.content c.law.ensures.distinct)
 
 pub returns-in-Stored-clause-put : goal.returns-in-Stored-clause-put
-returns-in-Stored-clause-put g c =
-    let kb = g.K.AsBytes.bytes in
-    let old = c.args.tree.now in
-    let new = c.add_within.new.self in
-    let x : g.row.K.Denot × g.row.V.Denot = (c.args.key, c.args.value) in
-    let a = subst (Adds kb old new x) (ap Ok c.in-Stored.is) c.add_within.ensures.added in
-    stored_written kb old new x c.law.ensures.content c.law.ensures.distinct _ _ _ a c.replace.result (c.value_mut.ensures.value ∙ ap Some (sym c.replace.ensures.value)) (with_value new.pairs c.in-Stored.id c.replace.new.dest) (ap (with_value new.pairs c.in-Stored.id) c.replace.ensures.after)
+returns-in-Stored-clause-put g c = stored_written _ _ _ _ c.add_within.ensures.added (ap Ok c.in-Stored.is) c.law.ensures.content c.law.ensures.distinct (c.value_mut.ensures.value ∙ ap Some (sym c.replace.ensures.value)) c.replace.ensures.after
 
 pub returns-in-Conflict-clause-put : goal.returns-in-Conflict-clause-put
-returns-in-Conflict-clause-put g c =
-    let kb = g.K.AsBytes.bytes in
-    let old = c.args.tree.now in
-    let new = c.add_within.new.self in
-    let x : g.row.K.Denot × g.row.V.Denot = (c.args.key, c.args.value) in
-    let a = subst (Adds kb old new x) (ap Ok c.in-Conflict.is) c.add_within.ensures.added in
-    (added_conflicts kb old new x _ _ _ a, added_none kb old new x _ _ _ a)
+returns-in-Conflict-clause-put g c = added_conflicts g.K.AsBytes.bytes c.args.tree.now c.add_within.new.self (c.args.key, c.args.value) c.add_within.ensures.added (ap Ok c.in-Conflict.is)
