@@ -118,12 +118,14 @@ module _ {K V : Type 0} where
   with_with [] i j v w ne = refl
   with_with (p ∷ ps) i j v w ne = grind (arith, common_steps, with_with ps i j v w ne)
 
-  written_past : (f : K × V → V) (left ps : List (Numbered K V)) (i : ℕ) (w : V) → Lacks left i → written_all f left (with_value ps i w) ≡ with_value (written_all f left ps) i w
+  -- a value is written before the others, or after them
+  pub written_past : (f : K × V → V) (left ps : List (Numbered K V)) (i : ℕ) (w : V) → Lacks left i → written_all f left (with_value ps i w) ≡ with_value (written_all f left ps) i w
   written_past f [] ps i w l = refl
   written_past f (p ∷ left) ps i w l =
       ap (written_all f left) (with_with ps i p.0 w (f p.1) (λ e. l.0 (sym e))) ∙ written_past f left (with_value ps p.0 (f p.1)) i w l.1
 
-  written_after : (f : K × V → V) (left ps : List (Numbered K V)) (p : Numbered K V) → written_all f (left ++ p ∷ []) ps ≡ with_value (written_all f left ps) p.0 (f p.1)
+  -- the last pair that is left is written last
+  pub written_after : (f : K × V → V) (left ps : List (Numbered K V)) (p : Numbered K V) → written_all f (left ++ p ∷ []) ps ≡ with_value (written_all f left ps) p.0 (f p.1)
   written_after f [] ps p = refl
   written_after f (q ∷ left) ps p = written_after f left (with_value ps q.0 (f q.1)) p
 

@@ -3,4 +3,3 @@ pub mod Filtered
 pub mod OnceExtracted
 pub mod OnceTaken
 pub mod Progress
-pub mod TakePairs

@@ -1,6 +1,5 @@
 -- What walks that lend values leave, and closures that write.
 pub mod CallableInTurn
-pub mod CountedPairs
 pub mod EachWritten
 pub mod LentPairs
 pub mod OnceWritten

@@ -1,22 +1,16 @@
 -- A closure that may be called on each pair of a list, in turn.
-use Rattle.std.proofs.Common.{◌≡◌, ◌∙◌, List, [], ◌∷◌, filter, Bool, true, false, cond, refl, sym, ap, subst}
+use Rattle.std.proofs.Common.{◌≡◌, ◌∙◌, List, [], ◌∷◌, filter, Bool, true, refl, sym, ap, subst}
 use Rattle.std.specs.Borrow.{Bor, MutBor}
 use Rattle.std.proofs.lemmas.List.Elements.{All-filter, filter_passes}
 use Rattle.std.specs.List.{All, FoldsTo}
 use denote.Param.Members.{Mut}
 use denote.Param.Always.{always_mut, mut_next}
+use Rattle.blart_keys.proofs.Mapped.{filter-map}
 use Rattle.art_tree.specs.Leaves.{Numbered}
 use Rattle.art_tree.specs.Pairs.{pairs_of}
 use Rattle.art_walk.proofs.Callable.{middle}
 use Rattle.blart_map.specs.Content.{pairs}
 use Rattle.blart_map.specs.EachWritten.{SomeCallAt, CallableInTurn, LeavesValue, TakesAtValue, LeavesPair, TakesAtPair}
-
-pairs_filter : {K V : Type 0} (t : K × V → Bool) (S : List (Numbered K V)) → pairs_of (filter (λ p. t p.1) S) ≡ filter t (pairs_of S)
-pairs_filter t [] = refl
-pairs_filter t (p ∷ S) = elim (t p.1) as (λ b. pairs_of (cond b (p ∷ filter (λ p. t p.1) S) (filter (λ p. t p.1) S)) ≡ cond b (p.1 ∷ filter t (pairs_of S)) (filter t (pairs_of S))) [
-  | true ↦ ap (λ l. p.1 ∷ l) (pairs_filter t S)
-  | false ↦ pairs_filter t S
-]
 
 module _ {F K V : Type 0} (R : F → K × V → V → F → Type 0) (Q : F → K × V → Type 0) where
   -- if each call keeps A of the state, A holds after all calls
@@ -41,7 +35,7 @@ module _ {F K V : Type 0} (R : F → K × V → V → F → Type 0) (Q : F → K
   unfolding pairs
   callable_where t P takes f left S e all =
       let both : All (λ x. (t x ≡ true) × P x) (filter t (pairs_of S)) = λ k d l. (filter_passes t (pairs_of S) k d l, All-filter t P (pairs_of S) all k d l) in
-      callable_such (λ x. (t x ≡ true) × P x) (λ f x h. takes f x h.0 h.1) f (pairs_of left) (subst (All (λ x. (t x ≡ true) × P x)) (sym (ap pairs_of e ∙ pairs_filter t S)) both)
+      callable_such (λ x. (t x ≡ true) × P x) (λ f x h. takes f x h.0 h.1) f (pairs_of left) (subst (All (λ x. (t x ≡ true) × P x)) (filter-map (λ (p : Numbered K V). p.1) t S ∙ sym (ap pairs_of e)) both)
 
 module _ {F K V : Type 0} (g : Mut F (MutBor V × Unit {0}) (Unit {0} × (MutBor V × Unit {0}))) where
   -- a closure that may always be called

@@ -1,29 +1,14 @@
 -- A value that a walk lent, and that is written through `pair` afterwards.
-use Rattle.std.proofs.Common.{◌≡◌, ◌≢◌, ℕ, Option, Some, option_map, List, [], ◌∷◌, ◌++◌, refl, sym, ap, ◌∙◌, subst, arith}
-use Rattle.std.specs.Option.{unwrap_or}
+use Rattle.std.proofs.Common.{◌≡◌, ℕ, Option, Some, option_map, List, [], ◌∷◌, ◌++◌, sym, ap, ◌∙◌, subst}
 use Rattle.std.specs.Prelude.{MatchOption, ⊤}
-use Rattle.std.proofs.lemmas.Grind.{common_steps}
 use Rattle.art_tree.specs.Leaves.{Numbered, leaf_in, Lacks, with_value}
 use Rattle.art_insert.proofs.Placed.Again.{with_with}
 use Rattle.art_insert.proofs.Placed.Setting.{pair_written as pair_set}
 use Rattle.art_walk.specs.Lent.{written_all, written_last, LentFirst, LentLast}
+use Rattle.art_walk.proofs.Lending.{written_past, written_after}
+use Rattle.art_walk.proofs.Steps.{some_inj}
 
 module _ {K V : Type 0} where
-  -- values are written under two numbers, in either order
-  with_apart : (ps : List (Numbered K V)) (i j : ℕ) (v w : V) → i ≢ j → with_value (with_value ps i v) j w ≡ with_value (with_value ps j w) i v
-  with_apart [] i j v w ne = refl
-  with_apart (p ∷ ps) i j v w ne = grind (arith, common_steps, with_apart ps i j v w ne)
-
-  -- a value is written before the others, or after them
-  written_before : (f : K × V → V) (left ps : List (Numbered K V)) (i : ℕ) (w : V) → Lacks left i → written_all f left (with_value ps i w) ≡ with_value (written_all f left ps) i w
-  written_before f [] ps i w l = refl
-  written_before f (p ∷ left) ps i w l = ap (written_all f left) (with_apart ps i p.0 w (f p.1) (λ e. l.0 (sym e))) ∙ written_before f left (with_value ps p.0 (f p.1)) i w l.1
-
-  -- the last pair that is left is written last
-  written_end : (f : K × V → V) (left ps : List (Numbered K V)) (p : Numbered K V) → written_all f (left ++ p ∷ []) ps ≡ with_value (written_all f left ps) p.0 (f p.1)
-  written_end f [] ps p = refl
-  written_end f (q ∷ left) ps p = written_end f left (with_value ps q.0 (f q.1)) p
-
   -- the list, once the pair lent last is written again
   again : (old new : List (Numbered K V)) (last : Option ℕ) (number : ℕ) (u w : V) → last ≡ Some number → new ≡ with_value old number u → written_last last new w ≡ with_value old number w
   again old new last number u w is h = ap (λ l. written_last l new w) is ∙ ap (λ ps. with_value ps number w) h ∙ with_with old number u w
@@ -35,10 +20,7 @@ module _ {K V : Type 0} where
       let there : leaf_in new number ≡ Some (k, x) = subst (λ l. MatchOption l ⊤ (λ id. leaf_in new id ≡ Some (k, x))) is found in
       let set : leaf_in (with_value old number u) number ≡ Some (key, u) = pair_set (λ k. []) old number u ∙ ap (option_map (λ k. (k, u))) (ap (option_map (λ (p : K × V). p.0)) named) in
       let both : Some (key, u) ≡ Some (k, x) = sym set ∙ ap (λ l. leaf_in l number) (sym written) ∙ there in
-      ap (λ (p : K × V). p.0) (some-injective both)
-    where
-      some-injective : {p q : K × V} → Some p ≡ Some q → p ≡ q
-      some-injective {p} {q} e = ap (λ o. unwrap_or o p) e
+      ap (λ (p : K × V). p.0) (some_inj (key, u) (k, x) both)
 
   module _ (old new left after : List (Numbered K V)) (last : Option ℕ) (k : K) (v u x w : V) (now still : List (Numbered K V)) (found : MatchOption last ⊤ (λ id. leaf_in new id ≡ Some (k, x))) (written : now ≡ written_last last new w) (same : still ≡ after) where
     -- if a walk lent its first value, and w was written through `pair`, which returned the key k,
@@ -76,8 +58,8 @@ module _ {K V : Type 0} where
               passed = subst (λ l. Lacks l h.number) (sym same) h.lent.passed;
               all_written = λ f e.
                   ap (λ l. written_all f l now) same ∙ ap (written_all f after) (is ∙ ap (with_value old h.number) (sym e))
-                  ∙ written_before f after old h.number (f (h.key, v)) h.lent.passed
-                  ∙ sym (ap (λ l. written_all f l old) h.splits ∙ written_end f after old (h.number, (h.key, v)));
+                  ∙ written_past f after old h.number (f (h.key, v)) h.lent.passed
+                  ∙ sym (ap (λ l. written_all f l old) h.splits ∙ written_after f after old (h.number, (h.key, v)));
             };
             is_last = h.is_last;
           },

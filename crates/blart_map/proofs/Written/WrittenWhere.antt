@@ -60,10 +60,6 @@ module _ {F K V : Type 0} (R : F → K × V → V → F → Type 0) (t : K × V 
           ap pairs_of (after_front values rest ps p (lacks_filter (λ p. t p.1) ps p.0 d.0))
           ∙ ap (λ l. p.1 ∷ l) (others f values c) ∙ sym (stands p.1 (pairs_of ps) values e)
 
-  -- the pairs that pass are the pairs of the numbered pairs that pass
-  passing : (ps : List (Numbered K V)) → pairs_of (filter (λ p. t p.1) ps) ≡ filter t (pairs_of ps)
-  passing ps = sym (filter-map (λ (p : Numbered K V). p.1) t ps)
-
   pub writes_called : (f : F) (left old new S T : List (Numbered K V)) → AreDistinct old → WritesLeft R left old f new → T ≡ new → old ≡ S → left ≡ filter (λ p. t p.1) S → WritesWhere R t (pairs S) f (pairs T)
   unfolding pairs
   writes_called f left old new S T d r e same some =
@@ -72,7 +68,7 @@ module _ {F K V : Type 0} (R : F → K × V → V → F → Type 0) (t : K × V 
       record {
         values = r.values;
         after = r.after;
-        called = subst (λ (xs : List (K × V)). CalledAtEach R xs f r.values r.after) (passing S) c;
+        called = subst (λ (xs : List (K × V)). CalledAtEach R xs f r.values r.after) (sym (filter-map (λ (p : Numbered K V). p.1) t S)) c;
         written = ap pairs_of (e ∙ r.written ∙ ap (λ l. written_with r.values l old) some ∙ ap (λ l. written_with r.values (filter (λ p. t p.1) S) l) same) ∙ called_where S f r.values r.after d' c;
       }
 

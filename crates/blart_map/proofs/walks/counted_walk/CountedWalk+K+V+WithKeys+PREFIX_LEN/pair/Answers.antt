@@ -1,7 +1,7 @@
 use Rattle.std.proofs.Common.{refl, sym, ap, ◌∙◌, lit<}
 use Rattle.art_walk.specs.Lent.{count_fits, numbers, written_last, count_written}
 use Rattle.art_walk.proofs.Lending.{count_test, has_lent, same_left}
-use Rattle.blart_map.proofs.Written.CountedPairs.{same_walk, pair_there}
+use Rattle.blart_map.proofs.Written.LentPairs.{same_counted, pair_there}
 use Rattle.blart_map.proofs.walks.counted_walk.CountedWalk+K+V+WithKeys+PREFIX_LEN.pair.Goals as goal
 
 pub leaf_mut-requires : goal.leaf_mut-requires
@@ -18,10 +18,10 @@ pub returns : goal.returns
 returns g c =
     let s = c.args.self.now in
     let id = c.unwrap-id.result in (
-      (refl, λ w. same_walk s w _ (ap (λ o. written_last o s.map.now w) (sym c.unwrap-id.ensures)) _),
+      (refl, λ w. same_counted s w _ (ap (λ o. written_last o s.map.now w) (sym c.unwrap-id.ensures)) _),
       record {
         writes_back = tt;
-        value = pair_there s id _ c.unwrap-id.ensures c.leaf_mut.ensures.value;
+        value = pair_there s.lent s.map.now id _ c.unwrap-id.ensures c.leaf_mut.ensures.value;
         same_left = λ w. same_left s.map.now c.numbers_law.ensures.distinct s.cursor s.lent (count_test s.cursor s.lent s.left s.map.now s.fits) w;
       },
     )
