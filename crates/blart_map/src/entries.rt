@@ -10,7 +10,7 @@ ghost use Rattle.blart_map.specs.EntryLends.{rests_if_refused, rests_if_none};
 use crate::entry::Entry;
 use crate::inner::InnerOccupiedEntry;
 use crate::map::TreeMap;
-use crate::occupied::OccupiedEntry;
+use crate::occupied::{Occupied, OccupiedEntry};
 use crate::prefix_entry::PrefixEntry;
 use crate::prefix_occupied::PrefixOccupied;
 use crate::vacant::VacantEntry;
@@ -34,7 +34,7 @@ impl<K: AsBytes, V, const PREFIX_LEN: usize> TreeMap<K, V, PREFIX_LEN> {
     pub fn prefix_get_key_value_mut<Q: AsBytes>(
         &mut self,
         query: &Q,
-    ) -> Option<OccupiedEntry<'_, K, V, PREFIX_LEN, TreeMap<K, V, PREFIX_LEN>>>
+    ) -> Option<Occupied<'_, K, V, PREFIX_LEN>>
         ensures* stands { sem 𝓛
             (rests_if_none K.row V.row PREFIX_LEN.row K.AsBytes self.entry result) }
         ensures found { is_some result
@@ -69,9 +69,7 @@ impl<K: AsBytes, V, const PREFIX_LEN: usize> TreeMap<K, V, PREFIX_LEN> {
     /// }
     /// assert_eq!(map.len(), 1);
     /// ```
-    pub fn first_entry(
-        &mut self,
-    ) -> Option<OccupiedEntry<'_, K, V, PREFIX_LEN, TreeMap<K, V, PREFIX_LEN>>>
+    pub fn first_entry(&mut self) -> Option<Occupied<'_, K, V, PREFIX_LEN>>
         ensures* stands { sem 𝓛
             (rests_if_none K.row V.row PREFIX_LEN.row K.AsBytes self.entry result) }
         ensures found { is_some result ≡ is_some (slice_get (pairs self.old) 0) }
@@ -104,9 +102,7 @@ impl<K: AsBytes, V, const PREFIX_LEN: usize> TreeMap<K, V, PREFIX_LEN> {
     /// }
     /// assert_eq!(map.get(&"dog"), Some(&3));
     /// ```
-    pub fn last_entry(
-        &mut self,
-    ) -> Option<OccupiedEntry<'_, K, V, PREFIX_LEN, TreeMap<K, V, PREFIX_LEN>>>
+    pub fn last_entry(&mut self) -> Option<Occupied<'_, K, V, PREFIX_LEN>>
         ensures* stands { sem 𝓛
             (rests_if_none K.row V.row PREFIX_LEN.row K.AsBytes self.entry result) }
         ensures found { is_some result

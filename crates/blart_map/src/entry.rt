@@ -6,7 +6,7 @@ ghost use Rattle.std.specs.Fn.{FnOnceReturnsAt};
 ghost use denote.Ref.{Bor};
 
 use crate::map::TreeMap;
-use crate::occupied::OccupiedEntry;
+use crate::occupied::{Occupied, OccupiedEntry};
 use crate::vacant::VacantEntry;
 use blart_keys::AsBytes;
 use std::alloc::{AllocError, Global};
@@ -102,10 +102,7 @@ impl<'a, K: AsBytes + Drop, V: Drop, const PREFIX_LEN: usize> Entry<
     /// Returns an error if that fails to allocate.
     ///
     /// Cost: reads the leaf on `Occupied`, and makes an insertion on `Vacant`.
-    pub fn insert_entry(
-        self,
-        value: V,
-    ) -> Result<OccupiedEntry<'a, K, V, PREFIX_LEN, TreeMap<K, V, PREFIX_LEN>>, AllocError>
+    pub fn insert_entry(self, value: V) -> Result<Occupied<'a, K, V, PREFIX_LEN>, AllocError>
         ensures* stands { sem 𝓛
             (entry_rests K.row V.row PREFIX_LEN.row K.AsBytes self.entry result) }
         ensures set { IfOk result (IsSetEntry self.entry value) }
@@ -120,10 +117,7 @@ impl<'a, K: AsBytes + Drop, V: Drop, const PREFIX_LEN: usize> Entry<
     /// Returns the entry of the key's pair. If no value is stored, it first places the default.
     ///
     /// Cost: none on `Occupied`, and an insertion on `Vacant`.
-    pub fn or_insert_entry(
-        self,
-        default: V,
-    ) -> Result<OccupiedEntry<'a, K, V, PREFIX_LEN, TreeMap<K, V, PREFIX_LEN>>, AllocError>
+    pub fn or_insert_entry(self, default: V) -> Result<Occupied<'a, K, V, PREFIX_LEN>, AllocError>
         ensures* stands { sem 𝓛
             (entry_rests K.row V.row PREFIX_LEN.row K.AsBytes self.entry result) }
         ensures set { IfOk result (IsKeptOrSet self.entry default) }
@@ -203,7 +197,7 @@ impl<'a, K: AsBytes + Drop, V: Drop, const PREFIX_LEN: usize> Entry<
     pub fn or_insert_with_entry<F: FnOnce() -> V + Drop>(
         self,
         default: F,
-    ) -> Result<OccupiedEntry<'a, K, V, PREFIX_LEN, TreeMap<K, V, PREFIX_LEN>>, AllocError>
+    ) -> Result<Occupied<'a, K, V, PREFIX_LEN>, AllocError>
         requires { entry_value self ≡ None → F.pre default }
         ensures* stands { sem 𝓛
             (entry_rests K.row V.row PREFIX_LEN.row K.AsBytes self.entry result) }
@@ -223,7 +217,7 @@ impl<'a, K: AsBytes + Drop, V: Drop, const PREFIX_LEN: usize> Entry<
     pub fn or_insert_with_key_entry<F: FnOnce(&K) -> V + Drop>(
         self,
         default: F,
-    ) -> Result<OccupiedEntry<'a, K, V, PREFIX_LEN, TreeMap<K, V, PREFIX_LEN>>, AllocError>
+    ) -> Result<Occupied<'a, K, V, PREFIX_LEN>, AllocError>
         requires { entry_value self ≡ None
             → (p : Bor K) → entry_key self ≡ Some p.now → F.pre default p }
         ensures* stands { sem 𝓛
@@ -242,9 +236,7 @@ impl<'a, K: AsBytes + Drop, V: Drop, const PREFIX_LEN: usize> Entry<
     /// [`MadeWith`] makes, like [`Entry::or_default`].
     ///
     /// Cost: none on `Occupied`, and an insertion on `Vacant`.
-    pub fn or_default_entry(
-        self,
-    ) -> Result<OccupiedEntry<'a, K, V, PREFIX_LEN, TreeMap<K, V, PREFIX_LEN>>, AllocError>
+    pub fn or_default_entry(self) -> Result<Occupied<'a, K, V, PREFIX_LEN>, AllocError>
     where
         V: MadeWith<Global>,
         ensures* stands { sem 𝓛

@@ -13,7 +13,7 @@ ghost use Rattle.blart_map.specs.EntryLends.{rests_if_none};
 ghost use Rattle.art_insert.specs.Places.{IsPlaced};
 
 use crate::map::TreeMap;
-use crate::occupied::OccupiedEntry;
+use crate::occupied::{Occupied, OccupiedEntry};
 use art_insert::{lawful_point, place_ready, room_for};
 use art_tree::{LeafId, Point, Visits};
 use art_walk::SubtreeIter;
@@ -47,7 +47,7 @@ impl<K: AsBytes, V, const PREFIX_LEN: usize> TreeMap<K, V, PREFIX_LEN> {
         &mut self,
         first: LeafId,
         last: LeafId,
-    ) -> Option<OccupiedEntry<'_, K, V, PREFIX_LEN, TreeMap<K, V, PREFIX_LEN>>>
+    ) -> Option<Occupied<'_, K, V, PREFIX_LEN>>
         requires { Has self.old first }
         ensures* stands { sem 𝓛
             (rests_if_none K.row V.row PREFIX_LEN.row K.AsBytes self.entry result) }

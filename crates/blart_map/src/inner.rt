@@ -10,7 +10,7 @@ ghost use Rattle.blart_map.specs.Content.{pairs};
 ghost use Rattle.art_insert.specs.Spans.{spans};
 
 use crate::map::TreeMap;
-use crate::occupied::OccupiedEntry;
+use crate::occupied::{Occupied, OccupiedEntry};
 use crate::walks::lending_walk::{LendingWalk, SubtreeIterMut};
 use art_tree::LeafId;
 use art_walk::{Cursor, SubtreeIter};
@@ -152,9 +152,7 @@ impl<'a, K: AsBytes + Drop, V, const PREFIX_LEN: usize> InnerOccupiedEntry<
     ///
     /// Cost: none.
     #[tactic(auto, using(crate::proofs::Related::InnerPairs::inner_has))]
-    pub fn get_key_value_mut(
-        self,
-    ) -> Option<OccupiedEntry<'a, K, V, PREFIX_LEN, TreeMap<K, V, PREFIX_LEN>>>
+    pub fn get_key_value_mut(self) -> Option<Occupied<'a, K, V, PREFIX_LEN>>
         ensures* stands { sem 𝓛
             (inner_rests K.row V.row PREFIX_LEN.row K.AsBytes self.entry result) }
         ensures found { is_some result ≡ is_some (inner_pair self.entry) }
@@ -222,10 +220,7 @@ impl<'a, K: AsBytes + Drop, V: Drop, const PREFIX_LEN: usize> InnerOccupiedEntry
     /// Removes the related pairs, places the key with the value, and returns the entry of the pair.
     ///
     /// Cost: one descent for each related pair but one.
-    pub fn insert_entry(
-        self,
-        value: V,
-    ) -> OccupiedEntry<'a, K, V, PREFIX_LEN, TreeMap<K, V, PREFIX_LEN>>
+    pub fn insert_entry(self, value: V) -> Occupied<'a, K, V, PREFIX_LEN>
         ensures { IsOverEntry self.entry value result }
     {
         let InnerOccupiedEntry {
@@ -246,10 +241,7 @@ impl<'a, K: AsBytes + Drop, V: Drop, const PREFIX_LEN: usize> InnerOccupiedEntry
     /// Like [`InnerOccupiedEntry::insert_entry`], with the entry in a `Result` that is never an
     /// error. If a call of an enum returns such a `Result`, the borrow checker follows the map
     /// through this call.
-    pub(crate) fn over(
-        self,
-        value: V,
-    ) -> Result<OccupiedEntry<'a, K, V, PREFIX_LEN, TreeMap<K, V, PREFIX_LEN>>, AllocError>
+    pub(crate) fn over(self, value: V) -> Result<Occupied<'a, K, V, PREFIX_LEN>, AllocError>
         ensures* stands { sem 𝓛
             (inner_over_rests K.row V.row PREFIX_LEN.row K.AsBytes self.entry result) }
         ensures set { IfOk result (IsOverEntry self.entry value) }

@@ -32,6 +32,15 @@ pub struct OccupiedEntry<'a, K: AsBytes, V, const PREFIX_LEN: usize, T: 'a> {
     ghost stands: { Has map.now id },
 }
 
+/// An [`OccupiedEntry`] of a [`TreeMap`].
+pub(crate) type Occupied<'a, K, V, const PREFIX_LEN: usize> = OccupiedEntry<
+    'a,
+    K,
+    V,
+    PREFIX_LEN,
+    TreeMap<K, V, PREFIX_LEN>,
+>;
+
 impl<'a, K: AsBytes, V, const PREFIX_LEN: usize, T: 'a> OccupiedEntry<'a, K, V, PREFIX_LEN, T> {
     ghost use Rattle.blart_map.specs.Entry.{Occupied, entry_key, entry_value, IsSetEntry};
     ghost use Rattle.blart_map.specs.OccupiedEntry.{with_entry_value};
@@ -143,9 +152,7 @@ impl<'a, K: AsBytes, V, const PREFIX_LEN: usize> OccupiedEntry<
 
     /// Returns this entry, in a `Result` that is never an error. If a call of an enum returns such
     /// a `Result`, the borrow checker follows the map through this call.
-    pub(crate) fn kept(
-        self,
-    ) -> Result<OccupiedEntry<'a, K, V, PREFIX_LEN, TreeMap<K, V, PREFIX_LEN>>, AllocError>
+    pub(crate) fn kept(self) -> Result<Occupied<'a, K, V, PREFIX_LEN>, AllocError>
         ensures* stands { sem 𝓛
             (entry_rests K.row V.row PREFIX_LEN.row K.AsBytes (Occupied self.entry) result) }
         ensures same { IfOk result (λ o. o ≡ self.entry) }
@@ -169,10 +176,7 @@ impl<'a, K: AsBytes, V: Drop, const PREFIX_LEN: usize> OccupiedEntry<
     ghost use Rattle.art_tree.specs.Leaves.{with_value};
 
     /// Sets the value, and returns this entry in a `Result`, like [`OccupiedEntry::kept`].
-    pub(crate) fn set(
-        self,
-        value: V,
-    ) -> Result<OccupiedEntry<'a, K, V, PREFIX_LEN, TreeMap<K, V, PREFIX_LEN>>, AllocError>
+    pub(crate) fn set(self, value: V) -> Result<Occupied<'a, K, V, PREFIX_LEN>, AllocError>
         ensures* stands { sem 𝓛
             (entry_rests K.row V.row PREFIX_LEN.row K.AsBytes (Occupied self.entry) result) }
         ensures set { IfOk result (IsSetEntry (Occupied self.entry) value) }

@@ -6,7 +6,7 @@ ghost use Rattle.blart_keys.specs.Entries.{Kind};
 ghost use denote.Ref.{Bor};
 
 use crate::map::TreeMap;
-use crate::occupied::OccupiedEntry;
+use crate::occupied::Occupied;
 use crate::prefix_kind::PrefixKind;
 use crate::prefix_occupied::PrefixOccupied;
 use crate::vacant::VacantEntry;
@@ -123,10 +123,7 @@ impl<'a, K: AsBytes + Drop, V: Drop, const PREFIX_LEN: usize> PrefixEntry<
     /// the entry of the key's pair. See [`PrefixKind::insert_entry`], which has all clauses.
     ///
     /// Cost: as for [`PrefixKind::insert_entry`].
-    pub fn insert_entry(
-        self,
-        value: V,
-    ) -> Result<OccupiedEntry<'a, K, V, PREFIX_LEN, TreeMap<K, V, PREFIX_LEN>>, AllocError>
+    pub fn insert_entry(self, value: V) -> Result<Occupied<'a, K, V, PREFIX_LEN>, AllocError>
         ensures set { IfOk result (IsPrefixSet self.entry value) }
         ensures vacant { OnErr result (prefix_kind self.entry ≡ Kind.Vacant) }
     {
@@ -141,10 +138,7 @@ impl<'a, K: AsBytes + Drop, V: Drop, const PREFIX_LEN: usize> PrefixEntry<
     /// has all clauses.
     ///
     /// Cost: as for [`PrefixKind::or_insert_entry`].
-    pub fn or_insert_entry(
-        self,
-        default: V,
-    ) -> Result<OccupiedEntry<'a, K, V, PREFIX_LEN, TreeMap<K, V, PREFIX_LEN>>, AllocError>
+    pub fn or_insert_entry(self, default: V) -> Result<Occupied<'a, K, V, PREFIX_LEN>, AllocError>
         ensures set { IfOk result (IsPrefixKeptOrSet self.entry default) }
         ensures vacant { OnErr result (prefix_kind self.entry ≡ Kind.Vacant) }
     {
@@ -162,7 +156,7 @@ impl<'a, K: AsBytes + Drop, V: Drop, const PREFIX_LEN: usize> PrefixEntry<
     pub fn or_insert_with_entry<F: FnOnce() -> V + Drop>(
         self,
         default: F,
-    ) -> Result<OccupiedEntry<'a, K, V, PREFIX_LEN, TreeMap<K, V, PREFIX_LEN>>, AllocError>
+    ) -> Result<Occupied<'a, K, V, PREFIX_LEN>, AllocError>
         requires { prefix_value self ≡ None → F.pre default }
         ensures set { IfOk result (IsPrefixKeptOrMade self.entry (F.post default)) }
         ensures vacant { OnErr result (prefix_kind self.entry ≡ Kind.Vacant) }
@@ -184,7 +178,7 @@ impl<'a, K: AsBytes + Drop, V: Drop, const PREFIX_LEN: usize> PrefixEntry<
     pub fn or_insert_with_key_entry<F: FnOnce(&K) -> V + Drop>(
         self,
         default: F,
-    ) -> Result<OccupiedEntry<'a, K, V, PREFIX_LEN, TreeMap<K, V, PREFIX_LEN>>, AllocError>
+    ) -> Result<Occupied<'a, K, V, PREFIX_LEN>, AllocError>
         requires { prefix_value self ≡ None
             → (p : Bor K) → prefix_key self ≡ Some p.now → F.pre default p }
         ensures set { IfOk result (IsPrefixKeptOrMade self.entry
@@ -206,9 +200,7 @@ impl<'a, K: AsBytes + Drop, V: Drop, const PREFIX_LEN: usize> PrefixEntry<
     /// [`PrefixKind::or_default_entry`], which has all clauses.
     ///
     /// Cost: as for [`PrefixKind::or_default_entry`].
-    pub fn or_default_entry(
-        self,
-    ) -> Result<OccupiedEntry<'a, K, V, PREFIX_LEN, TreeMap<K, V, PREFIX_LEN>>, AllocError>
+    pub fn or_default_entry(self) -> Result<Occupied<'a, K, V, PREFIX_LEN>, AllocError>
     where
         V: MadeWith<Global>,
         ensures set { IfOk result (IsPrefixKeptOrMade self.entry V.is_made_with) }

@@ -8,7 +8,7 @@ ghost use denote.Ref.{Bor};
 
 use crate::inner::InnerOccupiedEntry;
 use crate::map::TreeMap;
-use crate::occupied::OccupiedEntry;
+use crate::occupied::{Occupied, OccupiedEntry};
 use crate::vacant::VacantEntry;
 use blart_keys::AsBytes;
 use std::alloc::{AllocError, Global};
@@ -66,10 +66,7 @@ impl<'a, K: AsBytes + Drop, V: Drop, const PREFIX_LEN: usize> PrefixKind<
     ///
     /// Cost: reads the leaf on `Leaf`. On `Inner`, one descent for each related pair but one. On
     /// `Vacant`, an insertion.
-    pub fn insert_entry(
-        self,
-        value: V,
-    ) -> Result<OccupiedEntry<'a, K, V, PREFIX_LEN, TreeMap<K, V, PREFIX_LEN>>, AllocError>
+    pub fn insert_entry(self, value: V) -> Result<Occupied<'a, K, V, PREFIX_LEN>, AllocError>
         ensures* stands { sem 𝓛
             (kind_rests K.row V.row PREFIX_LEN.row K.AsBytes self.entry result) }
         ensures set { IfOk result (IsKindSetEntry self.entry value) }
@@ -88,10 +85,7 @@ impl<'a, K: AsBytes + Drop, V: Drop, const PREFIX_LEN: usize> PrefixKind<
     /// Fails to allocate on `Vacant` alone, and then the map is unchanged.
     ///
     /// Cost: none on `Leaf`. On `Inner` and `Vacant` as for [`PrefixKind::insert_entry`].
-    pub fn or_insert_entry(
-        self,
-        default: V,
-    ) -> Result<OccupiedEntry<'a, K, V, PREFIX_LEN, TreeMap<K, V, PREFIX_LEN>>, AllocError>
+    pub fn or_insert_entry(self, default: V) -> Result<Occupied<'a, K, V, PREFIX_LEN>, AllocError>
         ensures* stands { sem 𝓛
             (kind_rests K.row V.row PREFIX_LEN.row K.AsBytes self.entry result) }
         ensures set { IfOk result (IsKindKeptOrSet self.entry default) }
@@ -121,7 +115,7 @@ impl<'a, K: AsBytes + Drop, V: Drop, const PREFIX_LEN: usize> PrefixKind<
     pub fn or_insert_with_entry<F: FnOnce() -> V + Drop>(
         self,
         default: F,
-    ) -> Result<OccupiedEntry<'a, K, V, PREFIX_LEN, TreeMap<K, V, PREFIX_LEN>>, AllocError>
+    ) -> Result<Occupied<'a, K, V, PREFIX_LEN>, AllocError>
         requires { kind_value self ≡ None → F.pre default }
         ensures* stands { sem 𝓛
             (kind_rests K.row V.row PREFIX_LEN.row K.AsBytes self.entry result) }
@@ -142,7 +136,7 @@ impl<'a, K: AsBytes + Drop, V: Drop, const PREFIX_LEN: usize> PrefixKind<
     pub fn or_insert_with_key_entry<F: FnOnce(&K) -> V + Drop>(
         self,
         default: F,
-    ) -> Result<OccupiedEntry<'a, K, V, PREFIX_LEN, TreeMap<K, V, PREFIX_LEN>>, AllocError>
+    ) -> Result<Occupied<'a, K, V, PREFIX_LEN>, AllocError>
         requires { kind_value self ≡ None
             → (p : Bor K) → kind_key self ≡ Some p.now → F.pre default p }
         ensures* stands { sem 𝓛
@@ -166,9 +160,7 @@ impl<'a, K: AsBytes + Drop, V: Drop, const PREFIX_LEN: usize> PrefixKind<
     /// stored, once there is room.
     ///
     /// Cost: as for [`PrefixKind::or_insert_entry`].
-    pub fn or_default_entry(
-        self,
-    ) -> Result<OccupiedEntry<'a, K, V, PREFIX_LEN, TreeMap<K, V, PREFIX_LEN>>, AllocError>
+    pub fn or_default_entry(self) -> Result<Occupied<'a, K, V, PREFIX_LEN>, AllocError>
     where
         V: MadeWith<Global>,
         ensures* stands { sem 𝓛

@@ -5,7 +5,7 @@ ghost use Rattle.std.specs.Option.{option_copied_mut};
 
 use crate::inner::InnerOccupiedEntry;
 use crate::map::TreeMap;
-use crate::occupied::OccupiedEntry;
+use crate::occupied::{Occupied, OccupiedEntry};
 use blart_keys::AsBytes;
 
 /// A key whose bytes are stored in a map, or that conflicts with stored keys. None of its calls
@@ -104,10 +104,7 @@ impl<'a, K: AsBytes + Drop, V: Drop, const PREFIX_LEN: usize> PrefixOccupied<
     /// the value. Returns the entry of the key's pair.
     ///
     /// Cost: reads the leaf on `Leaf`. On `Inner`, one descent for each related pair but one.
-    pub fn insert_entry(
-        self,
-        value: V,
-    ) -> OccupiedEntry<'a, K, V, PREFIX_LEN, TreeMap<K, V, PREFIX_LEN>>
+    pub fn insert_entry(self, value: V) -> Occupied<'a, K, V, PREFIX_LEN>
         ensures { IsOccupiedSet self.entry value result }
     {
         match self {

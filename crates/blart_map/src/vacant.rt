@@ -7,7 +7,7 @@ ghost use Rattle.blart_keys.specs.Content.{stores, conflict};
 ghost use Rattle.art_tree.specs.Leaves.{bytes};
 
 use crate::map::TreeMap;
-use crate::occupied::OccupiedEntry;
+use crate::occupied::{Occupied, OccupiedEntry};
 use blart_keys::AsBytes;
 use std::alloc::AllocError;
 use std::marker::PhantomData;
@@ -81,10 +81,7 @@ impl<'a, K: AsBytes + Drop, V: Drop, const PREFIX_LEN: usize> VacantEntry<
     /// it returns an error, and drops the key and the value.
     ///
     /// Cost: an insertion.
-    pub fn insert_entry(
-        self,
-        value: V,
-    ) -> Result<OccupiedEntry<'a, K, V, PREFIX_LEN, TreeMap<K, V, PREFIX_LEN>>, AllocError>
+    pub fn insert_entry(self, value: V) -> Result<Occupied<'a, K, V, PREFIX_LEN>, AllocError>
         ensures* stands { sem 𝓛
             (entry_rests K.row V.row PREFIX_LEN.row K.AsBytes (Vacant self.entry) result) }
         ensures set { IfOk result (IsSetEntry (Vacant self.entry) value) }
@@ -135,7 +132,7 @@ impl<'a, K: AsBytes + Drop, V: Drop, const PREFIX_LEN: usize> VacantEntry<
     pub(crate) fn insert_entry_with<F: FnOnce() -> V + Drop>(
         self,
         default: F,
-    ) -> Result<OccupiedEntry<'a, K, V, PREFIX_LEN, TreeMap<K, V, PREFIX_LEN>>, AllocError>
+    ) -> Result<Occupied<'a, K, V, PREFIX_LEN>, AllocError>
         requires { F.pre default }
         ensures* stands { sem 𝓛
             (entry_rests K.row V.row PREFIX_LEN.row K.AsBytes (Vacant self.entry) result) }
@@ -155,7 +152,7 @@ impl<'a, K: AsBytes + Drop, V: Drop, const PREFIX_LEN: usize> VacantEntry<
     pub(crate) fn insert_entry_with_key<F: FnOnce(&K) -> V + Drop>(
         self,
         default: F,
-    ) -> Result<OccupiedEntry<'a, K, V, PREFIX_LEN, TreeMap<K, V, PREFIX_LEN>>, AllocError>
+    ) -> Result<Occupied<'a, K, V, PREFIX_LEN>, AllocError>
         requires { (p : Bor K) → p.now ≡ self.key → F.pre default p }
         ensures* stands { sem 𝓛
             (entry_rests K.row V.row PREFIX_LEN.row K.AsBytes (Vacant self.entry) result) }
