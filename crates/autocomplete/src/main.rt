@@ -20,13 +20,13 @@ const MOST: usize = 10;
 
 fn main(rt: HostRuntime) -> anyhow::Result<()> {
     let file = file_of(&rt)?;
-    if file.as_str() == "--help" {
+    if matches!(file.as_str(), "-h" | "--help") {
         print!(rt; "{USAGE}")?;
         return Ok(());
     }
     let text = fs::read_to_string(&rt, file.as_str()).context(format_args!("{file}"))?;
     let mut words = TreeSet::new(rt.alloc());
-    let result = run(&rt, &file, &text, &mut words);
+    let result = run(&rt, &file, without_mark(&text), &mut words);
     drop(words);
     result
 }
@@ -34,6 +34,11 @@ fn main(rt: HostRuntime) -> anyhow::Result<()> {
 /// Returns the first argument.
 fn file_of(rt: &HostRuntime) -> anyhow::Result<String> {
     env::args(rt)?.nth(1).context("usage: autocomplete FILE")
+}
+
+/// Returns a text without the byte-order mark that may begin it.
+fn without_mark(text: &str) -> &str {
+    text.strip_prefix('\u{feff}').unwrap_or(text)
 }
 
 /// Inserts the words of a list, and then completes the lines of standard input.
@@ -46,7 +51,8 @@ fn run(rt: &HostRuntime, file: &str, text: &str, words: &mut Set<ZKey>) -> anyho
     Ok(())
 }
 
-/// Inserts the word of each line, except for blank lines.
+/// Inserts the word of each line, except for blank lines. Returns an error if a word has a zero
+/// byte, or if it is listed already.
 fn insert_all(
     rt: &impl AllocGlobal,
     file: &str,
@@ -58,7 +64,9 @@ fn insert_all(
         number = number.wrapping_add(1);
         if !line.trim().is_empty() {
             let word = ZKey::from_bytes(rt.alloc(), line.as_bytes());
-            words.insert(word.context(format_args!("{file}:{number}"))?)?;
+            if !words.insert(word.context(format_args!("{file}:{number}"))?)? {
+                anyhow::bail!("{file}:{number}: {line} is listed already");
+            }
         }
     }
     Ok(())

@@ -35,13 +35,13 @@ struct Line<'a> {
 
 fn main(rt: HostRuntime) -> anyhow::Result<()> {
     let file = file_of(&rt)?;
-    if file.as_str() == "--help" {
+    if matches!(file.as_str(), "-h" | "--help") {
         print!(rt; "{USAGE}")?;
         return Ok(());
     }
     let text = fs::read_to_string(&rt, file.as_str()).context(format_args!("{file}"))?;
     let mut table = Routes::new(rt.alloc());
-    let result = run(&rt, &file, &text, &mut table);
+    let result = run(&rt, &file, without_mark(&text), &mut table);
     drop(table);
     result
 }
@@ -49,6 +49,11 @@ fn main(rt: HostRuntime) -> anyhow::Result<()> {
 /// Returns the first argument.
 fn file_of(rt: &HostRuntime) -> anyhow::Result<String> {
     env::args(rt)?.nth(1).context("usage: lpm FILE")
+}
+
+/// Returns a text without the byte-order mark that may begin it.
+fn without_mark(text: &str) -> &str {
+    text.strip_prefix('\u{feff}').unwrap_or(text)
 }
 
 /// Mounts the networks of a table, and then looks up the lines of standard input.
