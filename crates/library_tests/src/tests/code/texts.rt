@@ -82,6 +82,30 @@ fn place_length<const P: usize>(rt: &(impl Abort + AllocGlobal)) {
     assert!(rt; placed == 1 && len == 1);
 }
 
+/// Places the length of a text as its value by a prefix entry, and returns the value.
+fn enter<const P: usize>(
+    rt: &(impl Abort + AllocGlobal),
+    map: &mut TreeMap<ZKey, usize, P>,
+) -> usize {
+    let key = ZKey::from_bytes(rt.alloc(), b"f").expect(rt, "memory");
+    match map
+        .prefix_entry(key)
+        .or_insert_with_key(|key| key.to_bytes().len())
+    {
+        Ok(value) => *value,
+        Err(_) => 0,
+    }
+}
+
+/// Places the length of a text in a map with no pairs.
+fn place_by_prefix_entry<const P: usize>(rt: &(impl Abort + AllocGlobal)) {
+    let mut map = TreeMap::with_prefix_len(rt.alloc());
+    let placed = enter::<P>(rt, &mut map);
+    let len = map.len();
+    drop(map);
+    assert!(rt; placed == 1 && len == 1);
+}
+
 /// The closure of `or_insert_with_key` gets the key.
 #[test]
 fn length_of_a_text(rt: HostRuntime) {
@@ -91,4 +115,15 @@ fn length_of_a_text(rt: HostRuntime) {
     place_length::<8>(&rt);
     place_length::<16>(&rt);
     place_length::<64>(&rt);
+}
+
+/// The same of a prefix entry.
+#[test]
+fn length_of_a_text_by_prefix_entry(rt: HostRuntime) {
+    place_by_prefix_entry::<0>(&rt);
+    place_by_prefix_entry::<1>(&rt);
+    place_by_prefix_entry::<2>(&rt);
+    place_by_prefix_entry::<8>(&rt);
+    place_by_prefix_entry::<16>(&rt);
+    place_by_prefix_entry::<64>(&rt);
 }
