@@ -36,6 +36,7 @@ use std::env;
 use std::iter::FromIterator;
 use std::process::ExitCode;
 
+/// Runs what the arguments ask for, or says why it cannot.
 fn main(rt: HostRuntime) -> ExitCode {
     match run(&rt) {
         Ok(()) => ExitCode::SUCCESS,

@@ -15,6 +15,7 @@ use crate::lengths::answers_at_each_length;
 use std::io::{Read, Write};
 use std::process::ExitCode;
 
+/// Answers the script that is read from standard input.
 fn main(rt: HostRuntime) -> ExitCode {
     match run(&rt) {
         Ok(()) => ExitCode::SUCCESS,

@@ -43,6 +43,7 @@ pub(crate) fn parse(line: &[u8]) -> Option<Command<'_>>
     }
 }
 
+/// Returns the command that the word is, if it is one.
 fn parse_one(name: &[u8]) -> Option<Command<'_>>
     ensures { Parses result (name.now ∷ []) }
 {
@@ -53,6 +54,7 @@ fn parse_one(name: &[u8]) -> Option<Command<'_>>
     }
 }
 
+/// Returns the command that the two words are, if they are one.
 fn parse_two<'a>(name: &[u8], key: &'a [u8]) -> Option<Command<'a>>
     ensures { Parses result (name.now ∷ key.now ∷ []) }
 {
@@ -73,6 +75,7 @@ fn parse_two<'a>(name: &[u8], key: &'a [u8]) -> Option<Command<'a>>
     }
 }
 
+/// Returns the command that the three words are, if they are one.
 fn parse_three<'a>(name: &[u8], first: &'a [u8], second: &'a [u8]) -> Option<Command<'a>>
     ensures { Parses result (name.now ∷ first.now ∷ second.now ∷ []) }
 {
@@ -92,6 +95,7 @@ fn parse_three<'a>(name: &[u8], first: &'a [u8], second: &'a [u8]) -> Option<Com
 
 // ---- words
 
+/// Splits the line at its spaces.
 fn split_line(line: &[u8]) -> Words<'_>
     ensures { AreWords result (words_of line.now) }
 {
@@ -155,12 +159,14 @@ fn is_decodable(word: &[u8]) -> bool
     }
 }
 
+/// Returns `true` if each byte is a hexadecimal digit.
 fn is_all_hex(text: &[u8]) -> bool
     ensures { result ≡ list_all is_hex_digit text.now }
 {
     text.iter().all(|b| is_hex(*b))
 }
 
+/// Returns `true` if the byte is a hexadecimal digit.
 fn is_hex(byte: u8) -> bool
     ensures { result ≡ is_hex_digit byte }
 {

@@ -28,6 +28,7 @@ impl Model for Outbox {
 }
 
 impl Outbox {
+    /// Returns a buffer with no bytes.
     pub(crate) fn new() -> Self
         ensures { result ≡ [] }
     {
@@ -56,12 +57,14 @@ impl Outbox {
         self.count += 1;
     }
 
+    /// Returns the bytes that wait.
     fn as_slice(&self) -> &[u8]
         ensures { result.now ≡ self.now }
     {
         &self.bytes[..self.count]
     }
 
+    /// Removes the bytes that wait.
     fn clear(&mut self)
         ensures { self.new ≡ [] }
     {

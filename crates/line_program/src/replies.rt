@@ -72,6 +72,7 @@ pub(crate) fn reply<W: Write>(
     }
 }
 
+/// Inserts the word's key with the value, and returns the reply.
 fn insert(map: &mut Pairs, alloc: Global, word: &[u8], value: u64) -> ReplyLine
     ensures { (key : List ℕ) → key_of word.now ≡ Some key
         → HasResultOrFails (content_of map.old) (Insert key value) (text_of result ∷ [])
@@ -83,6 +84,7 @@ fn insert(map: &mut Pairs, alloc: Global, word: &[u8], value: u64) -> ReplyLine
     }
 }
 
+/// Looks up the word's key, and returns the reply.
 fn get(map: &Pairs, alloc: Global, word: &[u8]) -> ReplyLine
     ensures { (key : List ℕ) → key_of word.now ≡ Some key
         → HasResultOrFails (content_of map.now) (Get key) (text_of result ∷ [])
@@ -94,6 +96,7 @@ fn get(map: &Pairs, alloc: Global, word: &[u8]) -> ReplyLine
     }
 }
 
+/// Removes the pair with the word's key, and returns the reply.
 fn remove(map: &mut Pairs, alloc: Global, word: &[u8]) -> ReplyLine
     ensures { (key : List ℕ) → key_of word.now ≡ Some key
         → HasResultOrFails (content_of map.old) (Remove key) (text_of result ∷ [])
@@ -105,6 +108,7 @@ fn remove(map: &mut Pairs, alloc: Global, word: &[u8]) -> ReplyLine
     }
 }
 
+/// Removes the pairs whose keys begin with the word's key, and returns the reply.
 fn remove_prefix(map: &mut Pairs, alloc: Global, word: &[u8]) -> ReplyLine
     ensures { (key : List ℕ) → key_of word.now ≡ Some key
         → HasResultOrFails (content_of map.old) (RemovePrefix key) (text_of result ∷ [])
@@ -116,6 +120,7 @@ fn remove_prefix(map: &mut Pairs, alloc: Global, word: &[u8]) -> ReplyLine
     }
 }
 
+/// Inserts the word's key with the value in place of all related keys, and returns the reply.
 fn overwrite(map: &mut Pairs, alloc: Global, word: &[u8], value: u64) -> ReplyLine
     ensures { (key : List ℕ) → key_of word.now ≡ Some key
         → HasResultOrFails (content_of map.old) (Overwrite key value) (text_of result ∷ [])
@@ -141,6 +146,7 @@ fn decode_key(alloc: Global, word: &[u8]) -> Option<Vec<u8>>
     hex::decode(alloc, word).ok()
 }
 
+/// Returns the reply to an insertion.
 fn inserted_line(outcome: Result<Option<u64>, TryInsertError>) -> ReplyLine
     ensures { text_of result ≡ inserted_text outcome }
 {
@@ -152,6 +158,7 @@ fn inserted_line(outcome: Result<Option<u64>, TryInsertError>) -> ReplyLine
     }
 }
 
+/// Returns the reply with the value, or `none`.
 fn value_line(value: Option<u64>) -> ReplyLine
     ensures { text_of result ≡ value_text value }
 {

@@ -25,6 +25,7 @@ pub(crate) struct Session {
 impl Session {
     ghost use Rattle.line_program.specs.Session.{state_of};
 
+    /// Returns a session with an empty map, before the first byte.
     pub(crate) fn new(alloc: Global) -> Self
         ensures { state_of result ≡ record { line = []; content = []; waiting = [] } }
     {

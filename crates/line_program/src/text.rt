@@ -119,6 +119,7 @@ fn write_value<W: Write>(
     Ok(())
 }
 
+/// Writes the key in hexadecimal digits, or `-` if it is empty.
 fn write_key<W: Write>(
     key: &[u8],
     outbox: &mut Outbox,
@@ -136,6 +137,7 @@ fn write_key<W: Write>(
     }
 }
 
+/// Writes `-`.
 fn write_dash<W: Write>(outbox: &mut Outbox, writer: &mut Watched<W>) -> Result<(), RunError>
     requires { watched_failed writer.old ≡ false }
     ensures { IsSent result (W.contents (watched_inner writer.old))

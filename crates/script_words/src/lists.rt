@@ -34,6 +34,7 @@ pub fn items_of<T: Item>(words: Words<'_>) -> Result<Vec<T>, Unanswered> {
     }
 }
 
+/// Adds the items that the words stand for at the end of the list.
 fn push_items<T: Item>(items: &mut Vec<T>, mut words: Words<'_>) -> Answered {
     for _ in 0..u64::MAX {
         if words.is_done() {

@@ -267,6 +267,7 @@ fn push_part(bytes: &mut Vec<u8>, part: &[u8]) -> Answered {
     pushed
 }
 
+/// Adds the bytes at the end.
 fn push_all(bytes: &mut Vec<u8>, more: &[u8]) -> Answered {
     Ok(bytes.extend_from_slice(more)?)
 }

@@ -105,6 +105,7 @@ fn kind_of<K: AsBytes, const P: usize>(
     }
 }
 
+/// Returns the word for the kind of an occupied entry, and a space.
 fn kind_of_related<K: AsBytes, const P: usize>(
     related: &PrefixOccupied<'_, K, u64, P, MapOf<K, P>>,
 ) -> &'static [u8] {

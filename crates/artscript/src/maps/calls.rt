@@ -169,6 +169,7 @@ impl<K: AsBytes + Shown + Drop, const PREFIX_LEN: usize> Maps<K, u64, PREFIX_LEN
         Ok(())
     }
 
+    /// Makes the call that returns a mutable reference to the value of a pair.
     fn write_pair(&mut self, query: &Vec<u8>, value: u64, text: &mut Text) {
         match self.first.prefix_get_key_value_mut(query) {
             Some(mut entry) => {

@@ -76,6 +76,7 @@ impl<K: AsBytes + Shown + Drop, V: Shown + Drop, const PREFIX_LEN: usize> Maps<K
         }
     }
 
+    /// Appends the value at a key, which must be stored.
     fn index(&self, query: &Vec<u8>, text: &mut Text) {
         if !self.first.contains_key(query) {
             return text.stop(Unanswered::NoCall);

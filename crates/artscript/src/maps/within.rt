@@ -20,6 +20,7 @@ impl<K: AsBytes + Shown + Drop, const PREFIX_LEN: usize> Maps<K, u64, PREFIX_LEN
         answered
     }
 
+    /// Makes the named call, if the bounds are in order or the map is empty.
     fn call_within(
         &mut self,
         name: MapName,

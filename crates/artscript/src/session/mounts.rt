@@ -54,6 +54,7 @@ impl Table {
         }
     }
 
+    /// Makes the call that returns the number of mounts.
     fn tell(&self, words: Words<'_>, text: &mut Text) -> Answered {
         words.end()?;
         self.mounts.len().show(text);

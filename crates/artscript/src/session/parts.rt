@@ -34,6 +34,7 @@ impl<K: ScriptKey, const PREFIX_LEN: usize> Part<K, PREFIX_LEN> {
 }
 
 impl<const PREFIX_LEN: usize> Part<Vec<u8>, PREFIX_LEN> {
+    /// Makes a call of the part whose keys are byte strings.
     fn call_of_bytes(&mut self, call: LineCall, words: Words<'_>, text: &mut Text) -> Answered {
         match call {
             LineCall::Map(MapName::MakeClone) => self.maps.make_clone(words, text),
@@ -45,6 +46,7 @@ impl<const PREFIX_LEN: usize> Part<Vec<u8>, PREFIX_LEN> {
 }
 
 impl<K: FixedKey, const PREFIX_LEN: usize> Part<K, PREFIX_LEN> {
+    /// Makes a call of a part whose keys have a fixed length.
     fn call_of_fixed(&mut self, call: LineCall, words: Words<'_>, text: &mut Text) -> Answered
         requires clones { (k j : K) → K.is_clone k j → K.bytes j ≡ K.bytes k }
         requires entries { EntryFits K.row u64 PREFIX_LEN.row K.AsBytes }
@@ -58,6 +60,7 @@ impl<K: FixedKey, const PREFIX_LEN: usize> Part<K, PREFIX_LEN> {
 }
 
 impl<const PREFIX_LEN: usize> Part<ZKey, PREFIX_LEN> {
+    /// Makes a call of the part whose keys are text.
     fn call_of_zkeys(&mut self, call: LineCall, words: Words<'_>, text: &mut Text) -> Answered {
         match call {
             LineCall::Map(name) => self.maps.call_of_apart(name, words, text),

@@ -41,6 +41,7 @@ impl<K: AsBytes + Shown + Drop, const PREFIX_LEN: usize> Sets<K, PREFIX_LEN> {
         answered
     }
 
+    /// Makes the named call, if the bounds are in order or the set is empty.
     fn call_within(
         &mut self,
         name: SetName,
