@@ -24,13 +24,6 @@ begins_at_least (x ∷ p) (y ∷ b) h = let parts = and_parts _ _ h in less-same
 never : {b : Bool} → b ≡ false → b ≡ true → ⊥
 never f t = false≢true (sym f ∙ t)
 
--- if a is not greater than b, and b is less than c, a is less than c
-less_up : (a b c : List ℕ) → less b a ≡ false → less b c ≡ true → less a c ≡ true
-less_up a b c h k = elim (less_or a b) [
-  | inl e ↦ subst (λ d. less d c ≡ true) (sym e) k
-  | inr o ↦ elim o [ inl l ↦ less-trans a b c l k | inr l ↦ absurd (never h l) ]
-]
-
 -- if a is less than b, and b is not greater than c, a is less than c
 less_down : (a b c : List ℕ) → less a b ≡ true → less c b ≡ false → less a c ≡ true
 less_down a b c h k = elim (less_or b c) [

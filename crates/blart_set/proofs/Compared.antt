@@ -6,11 +6,7 @@ use Rattle.std.specs.Cmp.Lexicographic.{pointwise, slice_cmp, slice_partial_cmp}
 use Rattle.std.specs.Ordering.{ordering_then, partial_ordering_then}
 use Rattle.std.specs.List.{flat_map, fold}
 use Rattle.std.specs.Hash as fed
-
-then-Equal : (o : Ordering) → ordering_then o Equal ≡ o
-then-Equal Less = refl
-then-Equal Equal = refl
-then-Equal Greater = refl
+use Rattle.blart_keys.specs.KeyLaws.{then_equal}
 
 then-Some_Equal : (o : Option Ordering) → partial_ordering_then o (Some Equal) ≡ o
 then-Some_Equal None = refl
@@ -32,7 +28,7 @@ module _ {K V : Type 0} where
   cmp-keys C [] [] = refl
   cmp-keys C [] (q ∷ T) = refl
   cmp-keys C (p ∷ S) [] = refl
-  cmp-keys C (p ∷ S) (q ∷ T) = ap (λ o. ordering_then o (slice_cmp (λ p q. ordering_then (C p.0 q.0) Equal) S T)) (then-Equal (C p.0 q.0)) ∙ ap (ordering_then (C p.0 q.0)) (cmp-keys C S T)
+  cmp-keys C (p ∷ S) (q ∷ T) = ap (λ o. ordering_then o (slice_cmp (λ p q. ordering_then (C p.0 q.0) Equal) S T)) (then_equal (C p.0 q.0)) ∙ ap (ordering_then (C p.0 q.0)) (cmp-keys C S T)
 
   pub partial_cmp-keys : (C : K → K → Option Ordering) (S T : List (K × V)) → slice_partial_cmp (λ p q. partial_ordering_then (C p.0 q.0) (Some Equal)) S T ≡ slice_partial_cmp C (firsts S) (firsts T)
   partial_cmp-keys C [] [] = refl

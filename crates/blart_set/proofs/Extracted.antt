@@ -1,6 +1,7 @@
 -- One element on which a closure is called.
-use Rattle.std.proofs.Common.{◌≡◌, ℕ, suc, ◌<◌, ◌≤◌, Bool, true, false, List, [], ◌∷◌, ◌++◌, length, map, reverse, Option, Some, None, refl, sym, ap, ◌∙◌, arith}
+use Rattle.std.proofs.Common.{◌≡◌, ℕ, suc, Bool, true, false, List, [], ◌∷◌, ◌++◌, length, map, reverse, Option, Some, None, refl, sym, ap, ◌∙◌}
 use Rattle.std.proofs.lemmas.List.{map-append, reverse-append, length-reverse}
+use Rattle.std.proofs.lemmas.Option.{same_Some}
 use denote.Ref.{Bor}
 use denote.Param.Members.{Mut, Called}
 use Rattle.std.specs.Fn.{CalledAt}
@@ -62,9 +63,6 @@ pub elements_none : {K : Type 0} (S : List (Numbered K (Unit {0}))) → S ≡ []
 unfolding elements pairs
 elements_none S e = ap elements e
 
-some_same : {X : Type 0} (x y : X) → Some x ≡ Some y → x ≡ y
-some_same x y e = cc
-
 -- if the first item of the reversed list is removed, one less is left
 pub reversed_fewer : {X : Type 0} (xs ys : List X) (x : X) → reverse xs ≡ x ∷ reverse ys → suc (length ys) ≡ length xs
 reversed_fewer xs ys x e = ap suc (sym (length-reverse ys)) ∙ sym (ap length e) ∙ length-reverse xs
@@ -72,10 +70,10 @@ reversed_fewer xs ys x e = ap suc (sym (length-reverse ys)) ∙ sym (ap length e
 module _ {K : Type 0} (ps : List (Numbered K (Unit {0}))) (id : ℕ) (x : K) (named : leaf_in ps id ≡ Some (x, tt)) where
   -- a number names one element
   pub same_element : (y : K) → leaf_in ps id ≡ Some (y, tt) → x ≡ y
-  same_element y e = let p : (x, tt) ≡ (y, tt) = some_same (x, tt) (y, tt) (sym named ∙ e) in ap (λ z. z.0) p
+  same_element y e = let p : (x, tt) ≡ (y, tt) = same_Some (x, tt) (y, tt) (sym named ∙ e) in ap (λ z. z.0) p
 
   same_pair : (p : K × Unit {0}) → leaf_in ps id ≡ Some p → x ≡ p.0
-  same_pair p e = ap (λ z. z.0) (some_same (x, tt) p (sym named ∙ e))
+  same_pair p e = ap (λ z. z.0) (same_Some (x, tt) p (sym named ∙ e))
 
   module _ (old new : Cursor) where
     pub first_is : WasFirst ps old id new → elements (leaves_left old ps) ≡ x ∷ elements (leaves_left new ps)
@@ -83,9 +81,3 @@ module _ {K : Type 0} (ps : List (Numbered K (Unit {0}))) (id : ℕ) (x : K) (na
 
     pub last_is : WasLast ps old id new → reverse (elements (leaves_left old ps)) ≡ x ∷ reverse (elements (leaves_left new ps))
     last_is w = element_last (leaves_left old ps) (leaves_left new ps) id w.pair w.splits ∙ ap (λ y. y ∷ reverse (elements (leaves_left new ps))) (sym (same_pair w.pair w.named))
-
-pub le_step : (a b t : ℕ) → suc a ≡ b → b ≤ t → a ≤ t
-le_step a b t e l = omega arith
-
-pub lt_step : (a b t : ℕ) → suc a ≡ b → b ≤ t → a < t
-lt_step a b t e l = omega arith

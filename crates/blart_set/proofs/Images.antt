@@ -1,39 +1,25 @@
 -- What many pairs of a map of units say of the list of its keys.
 use Rattle.std.proofs.Common.{◌≡◌, ◌≢◌, ℕ, false, inl, inr, List, [], ◌∷◌, ◌++◌, map, refl, sym, ap, ◌∙◌, subst, Contains, bytes_eq}
-use Rattle.std.specs.List.{AllByRecursion}
 use Rattle.std.proofs.lemmas.List.{map-append}
 use Rattle.std.specs.Prelude.{Result, Ok, Err, OnOk, OnErr}
 use Rattle.std.specs.declared.ops.Bound.{Bound}
 use Rattle.blart_keys.specs.Content.{stores, between, IsContent}
 use Rattle.blart_keys.specs.Merges.{IsUnion}
 use Rattle.blart_keys.specs.Steps.{bytes}
-use Rattle.blart_keys.proofs.RankLemmas.{Contains-from_Member, Member-from_Contains, Ranked, Ranked-from_AllPairs, AllPairs-from_Ranked}
-use Rattle.blart_keys.proofs.ContentLemmas.{Before, Ranked-from_content, content_from_Ranked}
+use Rattle.blart_keys.proofs.RankLemmas.{Contains-from_Member, Member-from_Contains, Ranked-from_AllPairs, AllPairs-from_Ranked}
 use Rattle.blart_keys.proofs.MergeLemmas.{Lower}
-use Rattle.blart_keys.proofs.Mapped.{Member-map, Member-from_map, list_any-map, ranked_map}
+use Rattle.blart_keys.proofs.Mapped.{Member-map, Member-from_map, list_any-map, ranked_map, content_from_map}
 use Rattle.blart_map.specs.Bulk.{AreClones}
 use Rattle.blart_set.specs.Clones.{KeepsBytes, AreElementClones}
 use Rattle.blart_set.proofs.Pairs.{keys, between-keys}
 
 module _ {X Y : Type 0} (f : X → Y) where
-  items_all : (P : Y → Type 0) (xs : List X) → AllByRecursion P (map f xs) → AllByRecursion (λ x. P (f x)) xs
-  items_all P [] h = tt
-  items_all P (x ∷ xs) h = (h.0, items_all P xs h.1)
-
-  items_ranked : (R : Y → Y → Type 0) (xs : List X) → Ranked R (map f xs) → Ranked (λ x y. R (f x) (f y)) xs
-  items_ranked R [] h = tt
-  items_ranked R (x ∷ xs) h = (items_all (R (f x)) xs h.0, items_ranked R xs h.1)
-
   -- if there are items, there are images
   pub some_images : (xs : List X) → xs ≢ [] → map f xs ≢ []
   some_images [] n e = n refl
   some_images (x ∷ xs) n e = absurd cc
 
   module _ (bytes : Y → List ℕ) where
-    -- items whose images are a content are a content by the bytes of their images
-    pub items_content : (xs : List X) → IsContent bytes (map f xs) → IsContent (λ x. bytes (f x)) xs
-    items_content xs c = content_from_Ranked (λ x. bytes (f x)) xs (items_ranked (Before bytes) xs (Ranked-from_content bytes (map f xs) c))
-
     -- the images of a union are a union
     pub union_images : (A B U : List X) → IsUnion (λ x. bytes (f x)) A B U → IsUnion bytes (map f A) (map f B) (map f U)
     union_images A B U u = record {
@@ -73,7 +59,7 @@ module _ {K V : Type 0} (kb : K → List ℕ) where
   pub joined-keys : {A E : Type 0} (r : Result A E) (S T U : List (K × V)) → OnOk r ((W : List (K × V)) → IsContent (bytes kb) W → W ≡ S ++ T → U ≡ W) → OnOk r ((W : List K) → IsContent kb W → W ≡ keys kb S ++ keys kb T → keys kb U ≡ W)
   joined-keys (Ok a) S T U h = λ W c e.
       let whole : W ≡ keys kb (S ++ T) = e ∙ sym (map-append (λ (p : K × V). p.0) S T) in
-      ap (keys kb) (h (S ++ T) (items_content (λ p. p.0) kb (S ++ T) (subst (IsContent kb) whole c)) refl) ∙ sym whole
+      ap (keys kb) (h (S ++ T) (content_from_map (λ p. p.0) kb (S ++ T) (subst (IsContent kb) whole c)) refl) ∙ sym whole
   joined-keys (Err e) S T U h = tt
 
   pub nothing-keys : {A E : Type 0} (r : Result A E) (S : List (K × V)) → OnOk r (S ≡ []) → OnOk r (keys kb S ≡ [])

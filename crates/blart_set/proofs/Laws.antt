@@ -1,6 +1,6 @@
 -- Laws of merges, and of byte order, that a caller cites.
 use Rattle.std.proofs.Common.{◌≡◌, ℕ, suc, ◌<◌, ◌+◌, Bool, true, false, not, ◌||◌, inl, inr, List, [], ◌∷◌, length, arith, refl, sym, ap, ◌∙◌, subst, filter, Contains, bytes_eq, Ordering, Less, All, IsTrue, ◌↔◌, ◌==◌}
-use Rattle.std.proofs.lemmas.Bool.{false≢true, cases_Bool, eqb-true, not-true, not_from_false}
+use Rattle.std.proofs.lemmas.Bool.{false≢true, cases_Bool, eqb-true, not-true, not_from_false, or_right}
 use Rattle.std.specs.Cmp.{both_ways}
 use Rattle.std.proofs.lemmas.List.Filters.{length-filter_both}
 use Rattle.std.proofs.lemmas.List.Elements.{All-nil, All-cons, All-head, All-tail}
@@ -72,16 +72,12 @@ module _ {X : Type 0} (bytes : X → List ℕ) where
     pub union_stores : (q : List ℕ) → stores bytes U q ≡ (stores bytes A q || stores bytes B q)
     union_stores q = both_ways (stores bytes U q) (stores bytes A q || stores bytes B q) there back
       where
-        or_true : (a b : Bool) → b ≡ true → (a || b) ≡ true
-        or_true true b h = refl
-        or_true false b h = h
-
         there : stores bytes U q ≡ true → (stores bytes A q || stores bytes B q) ≡ true
         there h =
             let r = stores_found bytes U q h in
             elim ((u.elements r.0).0 (Contains-from_Member r.0 U r.1)) [
               | inl c ↦ ap (λ a. a || stores bytes B q) (stores_member bytes A q r.0 (Member-from_Contains r.0 A c) r.2)
-              | inr c ↦ or_true (stores bytes A q) (stores bytes B q) (stores_member bytes B q r.0 (Member-from_Contains r.0 B c.0) r.2)
+              | inr c ↦ or_right (stores bytes A q) (stores bytes B q) (stores_member bytes B q r.0 (Member-from_Contains r.0 B c.0) r.2)
             ]
 
         back : (stores bytes A q || stores bytes B q) ≡ true → stores bytes U q ≡ true

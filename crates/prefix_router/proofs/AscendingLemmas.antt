@@ -7,7 +7,7 @@ use Rattle.blart_keys.specs.Content.{Ascends, without}
 use Rattle.blart_keys.specs.KeyLaws.{begins_length, begins_same_length}
 use Rattle.blart_keys.specs.Stored.{bytes, pair_at, has, Updates}
 use Rattle.blart_keys.proofs.ByteLemmas.{fronts_related}
-use Rattle.blart_keys.proofs.ContentLemmas.{at_Some, at_None, at_absent}
+use Rattle.blart_keys.proofs.ContentLemmas.{at_Some, at_absent}
 use Rattle.blart_keys.proofs.PartLemmas.{less-irrefl, less-trans, less-same}
 use Rattle.blart_keys.proofs.RankLemmas.{Member, Ranked, Ranked-from_AllPairs, AllPairs-from_Ranked, Ranked-cases, Ranked-filter, same_list, each_member, filter_member, member_filter, filter_all, find_only}
 use Rattle.std.proofs.lemmas.Bool.{and_parts, or_cases}
@@ -76,10 +76,6 @@ module _ {K V : Type 0} (kb : K → List ℕ) where
   pub member_found : (S : List (K × V)) (q : List ℕ) (x : K × V) → pair_at kb S q ≡ Some x → Member x S × (kb x.0 ≡ q)
   unfolding pair_at
   member_found S q x e = at_Some (bytes kb) S q x e
-
-  pub none_found : (S : List (K × V)) (q : List ℕ) (x : K × V) → pair_at kb S q ≡ None → Member x S → kb x.0 ≢ q
-  unfolding pair_at
-  none_found S q x e m = at_None (bytes kb) S q x e m
 
   pub absent_found : (S : List (K × V)) (q : List ℕ) → ((x : K × V) → Member x S → kb x.0 ≢ q) → pair_at kb S q ≡ None
   unfolding pair_at

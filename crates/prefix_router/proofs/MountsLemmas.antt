@@ -6,9 +6,9 @@ use Rattle.std.proofs.lemmas.Bool.{false≢true, false_from_ne_true}
 use Rattle.blart_map.specs.Content.{Numbered}
 use Rattle.blart_keys.specs.Bytes.{begins, related}
 use Rattle.blart_keys.specs.KeyBytes.{vec_bytes}
-use Rattle.blart_keys.specs.Stored.{bytes, pair_at, value_at, has, kept, kept_pair, overlaps, Updates}
+use Rattle.blart_keys.specs.Stored.{bytes, pair_at, value_at, has, overlaps, Updates}
 use Rattle.blart_keys.proofs.ContentLemmas.{at_None, conflict_found, conflict_member}
-use Rattle.blart_keys.proofs.StoredLemmas.{is_some-map, pair_at_bytes}
+use Rattle.blart_keys.proofs.StoredLemmas.{is_some-map}
 use Rattle.blart_keys.proofs.RankLemmas.{Member, Ranked}
 use Rattle.blart_map.specs.Content.{pairs}
 use Rattle.prefix_router.specs.Best.{IsBest, is_longer}
@@ -143,14 +143,6 @@ pub absent_path : {V : Type 0} (T : List (List (Numbered (Vec ℕ Global) V))) (
 absent_path T S seen q e = seen_found T S seen q ∙ found_nowhere vec_bytes pairs T q e
 
 module _ {K V : Type 0} (kb : K → List ℕ) where
-  -- what an insertion stores has the bytes of its key
-  pub kept_bytes : (S : List (K × V)) (p : K × V) → kb (kept kb S p).0 ≡ kb p.0
-  kept_bytes S p = by (pair_at kb S (kb p.0)) refl
-    where
-      by : (o : Option (K × V)) → pair_at kb S (kb p.0) ≡ o → kb (kept_pair o p).0 ≡ kb p.0
-      by None e = refl
-      by (Some x) e = pair_at_bytes kb S (kb p.0) x e
-
   module _ (S S' : List (K × V)) (ranked : Ranked (Less kb) S) (ranked' : Ranked (Less kb) S') (q : List ℕ) where
     -- the number of mounts after a mount, by what was mounted
     pub len_mounted : (p : K × V) → Updates kb S S' q (Some p) → (o : Option V) → o ≡ value_at kb S q → length S' ≡ length S + (if is_some o then 0 else 1)

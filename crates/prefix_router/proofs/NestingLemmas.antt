@@ -1,9 +1,8 @@
 -- The longest prefix of a path, the walks over its prefixes and over what begins with some bytes,
 -- and where paths lead after a change.
 use Rattle.std.proofs.Common.{◌≡◌, ◌≢◌, ℕ, suc, ◌+◌, ◌-◌, ◌<◌, ◌≤◌, ◌⊎◌, inl, inr, Bool, true, false, not, ltb, leb, ◌&&◌, List, [], ◌∷◌, length, refl, sym, ap, ◌∙◌, subst, arith, slice_get, Option, Some, None, option_map, bytes_eq, filter, if◌then◌else◌}
-use Rattle.std.proofs.lemmas.Bool.{false≢true, cases_Bool, cases_lt, cond-true, cond-false, and_parts, and_from, or_cases, lt-ltb, ltb-true, ltb-false, le-leb, leb-true, not-true, not_from_false, false_from_ne_true}
+use Rattle.std.proofs.lemmas.Bool.{false≢true, cases_Bool, cases_lt, cond-true, cond-false, and_parts, and_from, or_cases, lt-ltb, ltb-true, ltb-false, le-leb, leb-true, false_from_ne_true}
 use Rattle.std.specs.declared.ops.Bound.{Bound}
-use Rattle.std.specs.declared.ops.Bound.TheVariants.{Included, Excluded, Unbounded}
 use Rattle.std.specs.Cmp.Lexicographic.{bytes_decides}
 use Rattle.blart_keys.specs.Bounds.{is_from_start}
 use Rattle.blart_keys.specs.Bytes.{begins, less}
@@ -11,6 +10,7 @@ use Rattle.blart_keys.specs.KeyLaws.{begins_length}
 use Rattle.blart_keys.specs.Stored.{pair_at, Updates}
 use Rattle.blart_keys.proofs.ByteLemmas.{begins-itself, begins-trans, fronts_related}
 use Rattle.blart_keys.proofs.PartLemmas.{less-irrefl, less-trans, less_or}
+use Rattle.blart_keys.proofs.PartsOfContents.{start_up}
 use Rattle.blart_keys.proofs.RankLemmas.{Member, Ranked, Ranked-filter, each_member, from_each_member, filter_member, member_filter, filter_none, same_list}
 use Rattle.prefix_router.specs.Best.{IsBest, is_longer, is_shorter}
 use Rattle.prefix_router.specs.Nesting.{fronts_of, longest_front, lead, longer, leads_by, IsLongestFront}
@@ -176,12 +176,7 @@ module _ {K V : Type 0} (kb : K → List ℕ) where
         ])
         (λ y m t. (
         let p = and_parts _ _ t in
-        (and_from _ _ (later low (kb x.0) (kb y.0) (and_parts _ _ h.1).0 p.0) p.1, p.0)))
-      where
-        later : (low : Bound (List ℕ)) (a b : List ℕ) → is_from_start low a ≡ true → less a b ≡ true → is_from_start low b ≡ true
-        later (Included s) a b t l = not_from_false _ (false_from_ne_true _ (λ u. false≢true (sym (not-true _ t) ∙ less-trans a b s l u)))
-        later (Excluded s) a b t l = less-trans s a b t l
-        later Unbounded a b t l = refl
+        (and_from _ _ (start_up low (kb x.0) (kb y.0) p.0 (and_parts _ _ h.1).0) p.1, p.0)))
 
   -- ---- where paths lead after a change
 

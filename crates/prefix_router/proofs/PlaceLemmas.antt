@@ -223,6 +223,3 @@ module _ {K V : Type 0} (kb : K → List ℕ) where
         same : (r : List ℕ) → r ≢ q → (o : Option (K × V)) → pair_at kb (flat_map f xs) r ≡ o → pair_at kb (flat_map f xs ++ f y) r ≡ pair_at kb (flat_map f xs) r
         same r off (Some z) e = pair_at-left kb (flat_map f xs) (f y) r z e ∙ sym e
         same r off None e = pair_at-right kb (flat_map f xs) (f y) r e ∙ u.1 r off ∙ nothing r ∙ sym e
-
-    pub length_push : (xs : List X) (y : X) → length (flat_map f (xs ++ y ∷ [])) ≡ length (flat_map f xs) + length (f y)
-    length_push xs y = ap (λ (S : List (K × V)). length S) (flat_push xs y) ∙ length-append (flat_map f xs) (f y)

@@ -1,11 +1,11 @@
-use Rattle.std.proofs.Common.{◌∷◌, length, suc, reverse, sym, ap, subst, ◌∙◌, lit<, None, refl, le_of_eq}
+use Rattle.std.proofs.Common.{◌∷◌, length, suc, reverse, sym, ap, arith, subst, ◌∙◌, lit<, None, refl, le_of_eq}
 use Rattle.std.specs.Fn.{CalledAt}
 use Rattle.blart_keys.specs.Content.{without}
 use Rattle.blart_map.specs.Passed.{leaves_left}
 use Rattle.blart_map.proofs.Beneath.{from_test, to_test}
 use Rattle.blart_set.specs.Elements.{elements}
 use Rattle.blart_set.proofs.Callable.{callable_first, callable_others}
-use Rattle.blart_set.proofs.Extracted.{called_at, asks_none, asks_true, asks_false, elements_none, same_element, last_is, le_step, lt_step, reversed_fewer}
+use Rattle.blart_set.proofs.Extracted.{called_at, asks_none, asks_true, asks_false, elements_none, same_element, last_is, reversed_fewer}
 use Rattle.blart_set.proofs.extracting.ExtractIfDoubleEndedIterator.next_back.Goals as goal
 
 pub step_back-requires : goal.step_back-requires
@@ -60,8 +60,8 @@ returns-then-pred-clause-goes g c =
     let called = subst (λ z. CalledAt g.F.FnMut at.pred z c.pred.result c.pred.new.self) same (called_at g.F.FnMut at.pred c.element.result c.pred.result c.pred.new.self c.pred.ensures) in
     let splits = last_is ps c.in-Some.id x c.take_element.ensures.value at.cursor new last in
     let can = callable_others g.F.FnMut at.pred x (reverse (elements (leaves_left at.cursor ps))) (reverse (elements (leaves_left new ps))) splits c.loop-id.invariant.0 c.pred.result c.pred.new.self called _ (ap (λ l. reverse (elements l)) stays.1) in
-    let less = lt_step _ _ _ (ap suc (ap length (ap elements stays.1)) ∙ reversed_fewer _ _ _ splits) c.loop-id.invariant.3 in
-    record { on = λ finite. (can, finite, less); keeps = can; rests = λ _. tt }
+    let fewer = ap suc (ap length (ap elements stays.1)) ∙ reversed_fewer (elements (leaves_left at.cursor ps)) (elements (leaves_left new ps)) x splits in
+    record { on = λ finite. (can, finite, omega (arith, fewer, c.loop-id.invariant.3)); keeps = can; rests = λ _. tt }
 
 pub loop-id-smaller : goal.loop-id-smaller
 loop-id-smaller g c =
@@ -76,11 +76,12 @@ loop-id-preserved g c =
     let new = c.step_back.new.cursor in
     let x = c.element.result.now in
     let called = called_at g.F.FnMut at.pred c.element.result c.pred.result c.pred.new.self c.pred.ensures in
-    let splits = last_is ps c.in-Some.id x c.element.ensures at.cursor new c.in-Some.ensures.last in (
+    let splits = last_is ps c.in-Some.id x c.element.ensures at.cursor new c.in-Some.ensures.last in
+    let fewer = reversed_fewer (elements (leaves_left at.cursor ps)) (elements (leaves_left new ps)) x splits in (
       callable_others g.F.FnMut at.pred x (reverse (elements (leaves_left at.cursor ps))) (reverse (elements (leaves_left new ps))) splits c.loop-id.invariant.0 c.pred.result c.pred.new.self called _ refl,
       c.loop-id.invariant.1,
       c.loop-id.invariant.2,
-      le_step _ _ _ (reversed_fewer _ _ _ splits) c.loop-id.invariant.3,
+      omega (arith, fewer, c.loop-id.invariant.3),
       λ r left f' a. c.loop-id.invariant.4 r left f' (asks_false g.F.FnMut (reverse (elements (leaves_left at.cursor ps))) (reverse (elements (leaves_left new ps))) x at.pred c.pred.new.self c.pred.result splits called c.if-pred.false r left f' a),
     )
 

@@ -2,10 +2,10 @@ use Rattle.std.proofs.Common.{◌∙◌, ap, sym, subst, Some, None, List, Vec, 
 use Rattle.std.specs.Global.{Global}
 use Rattle.blart_keys.specs.KeyBytes.{vec_bytes}
 use Rattle.blart_keys.specs.Stored.{pair_at, has, kept, kept_pair, Updates}
-use Rattle.blart_keys.proofs.StoredLemmas.{is_some-map}
+use Rattle.blart_keys.proofs.StoredLemmas.{is_some-map, kept_bytes}
 use Rattle.blart_map.specs.Content.{pairs}
 use Rattle.prefix_router.proofs.AscendingLemmas.{ranked_from}
-use Rattle.prefix_router.proofs.MountsLemmas.{seen_found, seen_value, ranked_mounts, updates_mounts, counted_same, absent_path, kept_bytes, len_mounted}
+use Rattle.prefix_router.proofs.MountsLemmas.{seen_found, seen_value, ranked_mounts, updates_mounts, counted_same, absent_path, len_mounted}
 use Rattle.prefix_router.proofs.NestingLemmas.{routes_put}
 use Rattle.prefix_router.proofs.PlaceLemmas.{told}
 use Rattle.prefix_router.specs.Tables.{all_mounts, mounts_of}
