@@ -164,18 +164,18 @@ fn place_below<K: AsBytes, V, const P: usize>(
         }
         Stop::AtNode(id, depth) => {
             let (edge, is_after) = edge_beside(nodes, &id, query[depth], visits);
-            Err(leaf_beside(leaves, nodes, &edge.to, is_after, visits))
+            Err(leaf_before_place(leaves, nodes, &edge.to, is_after, visits))
         }
         Stop::AtEdge(child, depth, byte) => {
             let is_after = byte < query[depth];
-            Err(leaf_beside(leaves, nodes, &child, is_after, visits))
+            Err(leaf_before_place(leaves, nodes, &child, is_after, visits))
         }
     }
 }
 
-/// Returns the leaf before the place beside a child, if there is one. The place is after the keys
-/// below the child if `is_after` is set, or else before them.
-fn leaf_beside<K: AsBytes, V, const P: usize>(
+/// Returns the leaf before a place, if there is one. The place is after the keys below this child
+/// if `is_after` is set, or else before them.
+fn leaf_before_place<K: AsBytes, V, const P: usize>(
     leaves: &Leaves<K, V>,
     nodes: &Nodes<P>,
     child: &Child,

@@ -44,15 +44,15 @@ returns-in-Longer-clause-counted g c =
     let first = c.end_under-first.ensures.counted keys m.root m.shape c.args.query.now u.key m.covers u.is in
     omega (arith, c.stop_of-stop.ensures.counted)
 
-pub leaf_beside-requires : goal.leaf_beside-requires
-leaf_beside-requires g c =
+pub leaf_before_place-requires : goal.leaf_before_place-requires
+leaf_before_place-requires g c =
     let keys = keys_in g.K.AsBytes.bytes c.args.leaves.now.pairs in
     let l = subst (λ (z : Stop). IsStop g.row.P keys (at c.args.nodes.now) z c.args.query.now) c.in-AtNode.is c.stop_of-stop.ensures.stop in
     let e = c.edge_beside-edge.ensures.edge in
     (lit< tt, (c.requires.content, (_, beside_at_node keys (at c.args.nodes.now) _ _ c.args.query.now l.0 e.node e.is c.edge_beside-edge.result.1 c.edge_beside-edge.result.0 e.next)))
 
-pub leaf_beside-requires-in-AtEdge : goal.leaf_beside-requires-in-AtEdge
-leaf_beside-requires-in-AtEdge g c =
+pub leaf_before_place-requires-in-AtEdge : goal.leaf_before_place-requires-in-AtEdge
+leaf_before_place-requires-in-AtEdge g c =
     let keys = keys_in g.K.AsBytes.bytes c.args.leaves.now.pairs in
     let l = subst (λ (z : Stop). IsStop g.row.P keys (at c.args.nodes.now) z c.args.query.now) c.in-AtEdge.is c.stop_of-stop.ensures.stop in
     (lit< tt, (c.requires.content, (_, beside_at_edge keys (at c.args.nodes.now) _ _ _ c.args.query.now l.0 _ refl)))
@@ -62,10 +62,10 @@ returns-in-AtNode-clause-stands g c =
     let keys = keys_in g.K.AsBytes.bytes c.args.leaves.now.pairs in
     let l = subst (λ (z : Stop). IsStop g.row.P keys (at c.args.nodes.now) z c.args.query.now) c.in-AtNode.is c.stop_of-stop.ensures.stop in
     let e = c.edge_beside-edge.ensures.edge in
-    c.leaf_beside.ensures.place _ (beside_at_node keys (at c.args.nodes.now) _ _ c.args.query.now l.0 e.node e.is c.edge_beside-edge.result.1 c.edge_beside-edge.result.0 e.next)
+    c.leaf_before_place.ensures.place _ (beside_at_node keys (at c.args.nodes.now) _ _ c.args.query.now l.0 e.node e.is c.edge_beside-edge.result.1 c.edge_beside-edge.result.0 e.next)
 
 pub returns-in-AtEdge-clause-stands : goal.returns-in-AtEdge-clause-stands
 returns-in-AtEdge-clause-stands g c =
     let keys = keys_in g.K.AsBytes.bytes c.args.leaves.now.pairs in
     let l = subst (λ (z : Stop). IsStop g.row.P keys (at c.args.nodes.now) z c.args.query.now) c.in-AtEdge.is c.stop_of-stop.ensures.stop in
-    c.leaf_beside-in-AtEdge.ensures.place _ (beside_at_edge keys (at c.args.nodes.now) _ _ _ c.args.query.now l.0 _ refl)
+    c.leaf_before_place-in-AtEdge.ensures.place _ (beside_at_edge keys (at c.args.nodes.now) _ _ _ c.args.query.now l.0 _ refl)

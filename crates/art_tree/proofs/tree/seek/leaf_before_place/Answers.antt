@@ -6,7 +6,7 @@ use Rattle.art_tree.specs.declared.tree.point.Beside.TheVariants.{AfterLeaf, Bef
 use Rattle.art_tree.proofs.Invariant.Soundness.{within_longest}
 use Rattle.art_tree.proofs.NumberedPairs.Bounds.{place_beside}
 use Rattle.art_tree.proofs.NumberedPairs.Keys.{has_key}
-use Rattle.art_tree.proofs.tree.seek.leaf_beside.Goals as goal
+use Rattle.art_tree.proofs.tree.seek.leaf_before_place.Goals as goal
 
 pub end_under-end-requires : goal.end_under-end-requires
 end_under-end-requires g c =
