@@ -1,8 +1,8 @@
 //! Functions over maps, sets and routers as users write them. The contract of each tells its
 //! effect.
 //!
-//! They are proved from the contracts of `blart`, `blart_set` and `prefix_router` alone. One test
-//! calls some of them. So all are in a crate of tests, which is proved once.
+//! They are proved from the contracts of `blart`, `blart_set` and `prefix_router` alone. Tests call
+//! some of them. So all are in a crate of tests, which is proved once.
 #![tactic(auto)]
 
 #[cfg(test)]

@@ -1,9 +1,10 @@
 //! Counts of words, in a map of texts of which one may begin with another.
-ghost use Rattle.std.specs.Prelude.{◌≡◌, ◌<◌, ◌≤◌, [], ◌∷◌, ◌++◌, length, unwrap_or, Contains, IfOk, OnOk, OnErr, Some};
+ghost use Rattle.std.specs.Prelude.{◌≡◌, ◌<◌, ◌≤◌, ◌+◌, ◌-◌, ◌^◌, [], ◌∷◌, ◌++◌, length, min, unwrap_or, Contains, IfOk, OnOk, OnErr, Some};
 ghost use Rattle.blart.specs.Words.{pairs, value_at, zkey_bytes, zstr_bytes, zquery_room};
 
 use blart::{Map, ZKey, ZKeyError, ZQuery, ZStr, zkey};
 use std::alloc::{AllocError, Global};
+use std::cmp::Reverse;
 
 /// Returns the count of a word, which is 0 if the word is not counted.
 pub fn count_of(counts: &Map<ZKey, u32>, query: &mut ZQuery, word: &[u8]) -> Result<u32, ZKeyError>
@@ -72,4 +73,48 @@ pub fn two_words(query: &mut ZQuery, long: &[u8], short: &[u8]) -> Result<(), ZK
 {
     query.set(long)?;
     next_word(query, short)
+}
+
+/// Adds one to the count of a word, unless that is the greatest count.
+pub fn count_word(counts: &mut Map<ZKey, u64>, alloc: Global, word: &[u8]) -> Result<(), ZKeyError>
+    ensures counted { OnOk result (value_at zkey_bytes (pairs counts.new) (word.now ++ 0 ∷ [])
+        ≡ Some (min (unwrap_or
+        (value_at zkey_bytes (pairs counts.old) (word.now ++ 0 ∷ [])) 0 + 1) (2 ^ 64 - 1))) }
+    ensures refused { OnErr result (counts.new ≡ counts.old) }
+{
+    let key = ZKey::from_bytes(alloc, word)?;
+    let count = counts.entry(key).or_insert(0)?;
+    *count = count.saturating_add(1);
+    Ok(())
+}
+
+/// Counts the words of a line.
+pub fn count_words(
+    counts: &mut Map<ZKey, u64>,
+    alloc: Global,
+    line: &str,
+) -> Result<(), ZKeyError> {
+    for word in line.split_whitespace() {
+        count_word(counts, alloc, word.as_bytes())?;
+    }
+    Ok(())
+}
+
+/// Returns the most frequent of the words that begin with a prefix, at most `most`, each with its
+/// count. Of words with one count, those that come first in byte order are first.
+pub fn most_frequent<'a>(
+    counts: &'a Map<ZKey, u64>,
+    alloc: Global,
+    prefix: &[u8],
+    most: usize,
+) -> Result<Vec<(u64, &'a ZKey)>, AllocError>
+    ensures { IfOk result (λ found. length found.items ≤ most) }
+{
+    let mut found = Vec::new(alloc);
+    for (word, count) in counts.prefix(prefix) {
+        found.push((*count, word))?;
+    }
+    found.sort_by_key(|pair| Reverse(pair.0))?;
+    found.truncate(most);
+    Ok(found)
 }
