@@ -4,6 +4,7 @@ use crate::words::{count_words, most_frequent};
 use blart::{Map, TreeMap, ZKey};
 use std::process::Abort;
 
+/// The handler of a path in a table of routes.
 #[test]
 fn a_path_is_asked_for(rt: HostRuntime) {
     assert!(&rt; matches!(asked(rt.alloc()), Ok(Some(Handler::Users))));
@@ -20,7 +21,7 @@ fn frequent_words(rt: HostRuntime) {
     drop(counts);
 }
 
-/// Asserts which three words with a prefix are the most frequent.
+/// Asserts the most frequent words with a prefix, at most three.
 fn assert_frequent(
     rt: &(impl Abort + AllocGlobal),
     counts: &Map<ZKey, u64>,

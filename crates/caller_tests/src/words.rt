@@ -1,4 +1,4 @@
-//! Counts of words, in a map of texts of which one may begin with another.
+//! Counts of words, in a map whose keys are texts. One text may begin with another.
 ghost use Rattle.std.specs.Prelude.{◌≡◌, ◌<◌, ◌≤◌, ◌+◌, ◌-◌, ◌^◌, [], ◌∷◌, ◌++◌, length, min, unwrap_or, Contains, IfOk, OnOk, OnErr, Some};
 ghost use Rattle.blart.specs.Words.{pairs, value_at, zkey_bytes, zstr_bytes, zquery_room};
 
@@ -67,7 +67,7 @@ pub fn next_word(query: &mut ZQuery, word: &[u8]) -> Result<(), ZKeyError>
     query.set(word)
 }
 
-/// Sets a query to a word, and then to one that is no longer. The second call needs no memory.
+/// Sets a query to a word, and then to one that is no longer. The second call does not allocate.
 pub fn two_words(query: &mut ZQuery, long: &[u8], short: &[u8]) -> Result<(), ZKeyError>
     requires { length short.now ≤ length long.now }
 {
@@ -88,7 +88,7 @@ pub fn count_word(counts: &mut Map<ZKey, u64>, alloc: Global, word: &[u8]) -> Re
     Ok(())
 }
 
-/// Counts the words of a line.
+/// Counts the words of a line. If a word fails, the words before it are counted.
 pub fn count_words(
     counts: &mut Map<ZKey, u64>,
     alloc: Global,
@@ -101,7 +101,7 @@ pub fn count_words(
 }
 
 /// Returns the most frequent of the words that begin with a prefix, at most `most`, each with its
-/// count. Of words with one count, those that come first in byte order are first.
+/// count. Words with the same count are in byte order.
 pub fn most_frequent<'a>(
     counts: &'a Map<ZKey, u64>,
     alloc: Global,
