@@ -140,6 +140,7 @@ fn assert_walk(rt: &impl Abort, tree: &Bare) {
     assert!(rt; leaves.len() == 1000 && ends.is_none());
 }
 
+/// What a tree of 1,000 keys is made of.
 #[test]
 fn a_tree_taken_apart(rt: HostRuntime) {
     let mut tree = Bare::new(rt.alloc());
@@ -161,6 +162,7 @@ fn a_tree_taken_apart(rt: HostRuntime) {
     assert!(rt; live == 1 + 10 + 100 && len == 1000);
 }
 
+/// What an empty list of pairs and a new frame are made of.
 #[test]
 fn pairs_taken_apart(rt: HostRuntime) {
     let Pairs { leaves } = Pairs::<u8, u8>::new(rt.alloc());

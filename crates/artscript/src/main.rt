@@ -1,6 +1,6 @@
-//! Answers each line of a script of calls of the map and the set with a line on standard output.
+//! Runs a script of calls of the map and the set, and writes a line for each of its lines.
 //!
-//! The script runs over maps of six prefix lengths, which must yield the same answers.
+//! The script runs over maps of six prefix lengths, which must yield the same results.
 #![tactic(auto)]
 
 mod entries;
@@ -15,7 +15,7 @@ use crate::lengths::answers_at_each_length;
 use std::io::{Read, Write};
 use std::process::ExitCode;
 
-/// Answers the script that is read from standard input.
+/// Runs the script from standard input.
 fn main(rt: HostRuntime) -> ExitCode {
     match run(&rt) {
         Ok(()) => ExitCode::SUCCESS,
@@ -26,7 +26,7 @@ fn main(rt: HostRuntime) -> ExitCode {
     }
 }
 
-/// Reads the script and writes its answers.
+/// Reads the script, runs it, and writes its results.
 fn run(rt: &HostRuntime) -> Result<(), Failure> {
     let mut script = Vec::new(rt.alloc());
     if rt.stdin().read_to_end(&mut script).is_err() {

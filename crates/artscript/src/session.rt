@@ -1,7 +1,7 @@
 //! Runs a script: from its lines to its answers.
 //!
-//! [`answers`] answers a whole script. A [`Session`] holds the maps and sets that the lines call,
-//! and answers one line after the other.
+//! [`answers`] runs a whole script. A [`Session`] holds the maps and sets that the lines call, and
+//! runs one line after the other.
 mod counted;
 mod mounts;
 pub(crate) mod parts;
@@ -12,7 +12,7 @@ use std::alloc::Global;
 use std::cell::Cell;
 use std::iter::Iterator;
 
-/// Returns the answers to the lines of the script. Each ends with a line feed.
+/// Returns the results of the lines of the script. Each ends with a line feed.
 pub(crate) fn answers<const PREFIX_LEN: usize>(
     alloc: Global,
     script: &[u8],

@@ -1,5 +1,5 @@
 //! Functions over maps, sets and routers as users write them. The contract of each tells its
-//! effect.
+//! effect, except for `count_words` and `most_frequent`, which a test calls.
 //!
 //! They are proved from the contracts of `blart`, `blart_set` and `prefix_router` alone. Tests call
 //! some of them. So all are in a crate of tests, which is proved once.

@@ -1,11 +1,11 @@
 -- The pairs with one more pair.
-use Rattle.std.proofs.Common.{◌≡◌, ◌≢◌, ℕ, List, [], refl, ap, sym, subst, Option, Some, None, ◌∙◌, false}
+use Rattle.std.proofs.Common.{◌≡◌, ◌≢◌, ℕ, ◌<◌, List, [], length, refl, ap, sym, subst, Option, Some, None, ◌∙◌, false, arith}
 use Rattle.std.specs.Prelude.{IfSome}
 use Rattle.blart_keys.specs.Bytes.{related}
 use Rattle.blart_keys.specs.Content.{IsContent}
 use Rattle.art_tree.specs.Begins.{Bytes}
 use Rattle.art_tree.specs.Places.{LeavesNearest, IsLeafBefore, IsBeside, neighbour, number_before_place}
-use Rattle.art_tree.specs.Calls.Placing.{IsSpotFor, IsShown, IsShownIn, IsToJoin, TreeGains, PutsPair}
+use Rattle.art_tree.specs.Calls.Placing.{IsSpotFor, HasNearest, IsShown, IsShownIn, IsToJoin, TreeGains, PutsPair}
 use Rattle.art_tree.specs.Leaves.{Leaves, Numbered, leaf_in, Has, AreDistinct, with_pair_after, bytes, keys_in}
 use Rattle.art_kinds.specs.Nodes.{Nodes, Node, at}
 use Rattle.art_tree.specs.Points.{IsFree}
@@ -19,6 +19,7 @@ use Rattle.art_tree.specs.declared.tree.point.Place.{Place}
 use Rattle.art_kinds.specs.declared.records.ids.Child.{Child}
 use Rattle.art_kinds.specs.declared.records.ids.Child.TheVariants.{Leaf}
 use Rattle.art_tree.proofs.Invariant.Growing.{Gains, some_key}
+use Rattle.art_tree.proofs.Calls.PlacedShapes.{nearest_long}
 use Rattle.art_tree.proofs.NumberedPairs.KeyChanges.{gains_from, leaving_unrelated}
 use Rattle.art_tree.proofs.NumberedPairs.Turns.{none_begins}
 use Rattle.art_rows.proofs.CallerLemmas.{Lacks-from_leaf_in, leaf_in-placed_now, others-with_pair_after}
@@ -110,7 +111,7 @@ module _ {K V : Type 0} (key_bytes : K → Bytes) where
     known = known;
   }
 
-module _ {P : ℕ} (keys : ℕ → Option Bytes) (nodes : ℕ → Option Node) (root : Option Child) (nearest depth : ℕ) (shown : Option Spot) (i : ℕ) (new : IsToJoin P keys nodes root nearest depth shown i) where
+module _ {P : ℕ} {keys : ℕ → Option Bytes} {nodes : ℕ → Option Node} {root : Option Child} {nearest depth : ℕ} {shown : Option Spot} {i : ℕ} (new : IsToJoin P keys nodes root nearest depth shown i) where
   -- the nearest leaf is not the new one
   another : nearest ≢ i
   another e = let a : new.rest i ≡ Some new.leaves.nearest_key = ap new.rest (sym e) ∙ new.leaves.nearest_is in let b : new.rest i ≡ None = new.gains.fresh in let z : None ≡ Some new.leaves.nearest_key = sym b ∙ a in cc
@@ -119,7 +120,13 @@ module _ {P : ℕ} (keys : ℕ → Option Bytes) (nodes : ℕ → Option Node) (
   pub has_nearest : keys nearest ≡ Some new.leaves.nearest_key
   has_nearest = new.gains.others nearest another ∙ new.leaves.nearest_is
 
-  module _ (k m : Bytes) (own : keys i ≡ Some k) (near : keys nearest ≡ Some m) where
+  -- if its spot is known, it is right
+  pub known_fits : (spot : Spot) → shown ≡ Some spot → SpotFits nodes root new.shape.front_of new.leaves.nearest_key depth spot
+  known_fits spot e =
+      let long : depth < length new.leaves.nearest_key = new.leaves.nearest_longer in
+      subst (λ (o : Option Spot). IfSome o (IsShownIn P new.rest nodes root nearest depth)) e new.known new.shape new.leaves.nearest_key new.leaves.nearest_is (omega arith)
+
+  module _ {k m : Bytes} (own : keys i ≡ Some k) (near : keys nearest ≡ Some m) where
     own_key : new.key ≡ k
     own_key = let a : keys i ≡ Some new.key = new.gains.has in cc
 
@@ -139,3 +146,10 @@ module _ {P : ℕ} (keys : ℕ → Option Bytes) (nodes : ℕ → Option Node) (
       -- and once the leaf is added there, the tree has the key
       pub new_shape : (nodes' : ℕ → Option Node) (root' : Option Child) → TreeGains P nodes nodes' root root' spot k m depth i → Shape P keys nodes' root'
       new_shape nodes' root' joined = joined new.rest keys new.shape nearest near_rest leaves_near fits (subst (λ (k : Bytes). Gains new.rest keys i k) own_key new.gains)
+
+-- the spot can be found by the nearest key
+abbrev pub to_nearest : {P : ℕ} {keys : ℕ → Option Bytes} {nodes : ℕ → Option Node} {root : Option Child} (place : Place) {shown : Option Spot} {i : ℕ} (new : IsToJoin P keys nodes root place.nearest place.depth shown i) {k m : Bytes} → keys i ≡ Some k → keys place.nearest ≡ Some m → HasNearest P nodes root place shown m
+to_nearest place new {k} {m} own near =
+    let is = near_rest new own near in
+    let long : place.depth < length m = nearest_long new.rest place.nearest place.depth k (leaves_near new own near) m is in
+    record { keys = new.rest; shape = new.shape; is = is; within = omega arith; known = new.known }

@@ -1,4 +1,4 @@
--- A key and a query of which one is a prefix of the other.
+-- Keys that are prefixes of a query, and keys that have it as a prefix.
 use Rattle.std.proofs.Common.{◌≡◌, ◌≢◌, ℕ, refl, true, false, ◌⊎◌, inl, inr, length, ap, sym, subst, ◌∙◌, Option, Some, arith}
 use Rattle.std.proofs.lemmas.Bool.{cases_lt, false≢true}
 use Rattle.std.proofs.lemmas.Bool.Decides.{eqb_tells}

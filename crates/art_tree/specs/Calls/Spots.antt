@@ -24,11 +24,6 @@ abbrev pub SpotFits : (ℕ → Option Node) → Option Child → (ℕ → Bytes)
 SpotFits nodes root front_of nearest depth (spot.Node above n) = EdgeFits nodes root front_of nearest depth above (Inner n) × (front_of n ≡ take depth nearest)
 SpotFits nodes root front_of nearest depth (spot.Edge above c) = EdgeFits nodes root front_of nearest depth above c × PastLength front_of depth c
 
--- the node of a spot, or the child of its edge
-abbrev pub child_under : Spot → Child
-child_under (spot.Node above n) = Inner n
-child_under (spot.Edge above c) = c
-
 -- the edge of a spot
 abbrev pub above_of : Spot → Option (ℕ × ℕ)
 above_of (spot.Node above n) = above

@@ -18,7 +18,7 @@ use art_slots::LeafId;
 use blart_keys::AsBytes;
 use std::alloc::AllocError;
 
-/// What came of a pair that was to be added.
+/// The result of adding a pair.
 #[derive(Drop)]
 pub enum Added<Id, K, V> {
     /// The pair was placed. Its key was related to no stored key.
@@ -33,8 +33,8 @@ impl<K: AsBytes + Drop, V: Drop, const PREFIX_LEN: usize> Tree<K, V, PREFIX_LEN>
     /// Adds a pair if its key is related to no stored key. Each other id names the pair that it
     /// named. Returns an error if it fails to allocate, and the pairs are then unchanged.
     ///
-    /// This is [`Tree::point`], [`Tree::make_room`] and [`Tree::place`] in one call. It reads each
-    /// node once.
+    /// This is [`Tree::point`], [`Tree::make_room`] and [`Tree::place`] in one call, with one
+    /// descent.
     ///
     /// Cost: one descent. If no stored key is related to the key, it also allocates for one pair.
     pub fn add(&mut self, key: K, value: V) -> Result<Added<LeafId, K, V>, AllocError>

@@ -11,7 +11,7 @@ use crate::tree::skeleton::EdgeAbove;
 use art_kinds::{Child, NodeId, Nodes};
 use art_slots::{LeafId, Visits};
 
-/// A place in the tree where some bytes may leave the keys.
+/// Where some bytes may leave the keys, with the edge above.
 #[derive(Clone, Copy)]
 pub(crate) enum Spot {
     /// A node, and the edge above it.
@@ -22,17 +22,7 @@ pub(crate) enum Spot {
 
 impl Spot {
     ghost use Rattle.std.specs.Prelude.{◌≡◌};
-    ghost use Rattle.art_tree.specs.Calls.Spots.{child_under, above_of};
-
-    /// Returns the node of the spot, or the child of its edge.
-    pub(crate) fn child(&self) -> Child
-        ensures { result ≡ child_under self.now }
-    {
-        match self {
-            Spot::Node(_, id) => Child::Inner(*id),
-            Spot::Edge(_, child) => *child,
-        }
-    }
+    ghost use Rattle.art_tree.specs.Calls.Spots.{above_of};
 
     /// Returns the edge above the spot.
     pub(crate) fn above(&self) -> EdgeAbove

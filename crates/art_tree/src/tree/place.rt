@@ -113,8 +113,8 @@ impl<const P: usize> Skeleton<P> {
     ghost use Rattle.art_tree.specs.Leaves.{keys_in};
     ghost use Rattle.art_kinds.specs.Nodes.{at, room, FitsNew};
 
-    /// Adds a leaf. Its key leaves the nearest key at the depth of a place, at the spot `shown` if
-    /// that is known. Reads the nearest leaf only if the spot is no node.
+    /// Adds a leaf at a place. `shown` is the spot where its key leaves the others, if that is
+    /// known. Reads the nearest leaf unless that spot is a node.
     fn join<K: AsBytes, V>(
         &mut self,
         leaves: &Leaves<K, V>,
@@ -233,8 +233,8 @@ fn spot_for<const P: usize>(
     }
 }
 
-/// Returns the spot at the end of a place's edge, if that edge still leads to the nearest leaf or
-/// to a node that has it. Reads no leaf.
+/// Returns the spot of a place as it is now. Returns `None` if the edge above it no longer leads to
+/// the nearest leaf, or to a node at the place's depth with an edge to that leaf. Reads no leaf.
 fn spot_shown<const P: usize>(skeleton: &Skeleton<P>, place: &Place) -> Option<Spot>
     ensures { IfSome result (IsShown P (at skeleton.now.nodes) skeleton.now.root place.now) }
 {
@@ -255,7 +255,8 @@ fn spot_shown<const P: usize>(skeleton: &Skeleton<P>, place: &Place) -> Option<S
     }
 }
 
-/// Returns the edge above a place, and its child, if the node of that edge is above the place.
+/// Returns the edge above a place, and the child that it leads to, if the node of that edge is above
+/// the place.
 fn edge_toward<const P: usize>(skeleton: &Skeleton<P>, place: &Place) -> Option<(EdgeAbove, Child)>
     ensures leads { IfSome result
         (λ e. LeadsTo (at skeleton.now.nodes) skeleton.now.root e.0 e.1) }
@@ -318,8 +319,9 @@ fn fork<const P: usize>(
     }
 }
 
-/// Returns the byte that the keys below a child have at a depth. The compressed prefix above the
-/// child begins at `from`. The byte is one that the node keeps, or else one of a key below it.
+/// Returns the byte that the keys below a child have at a depth. The compressed prefix of the child
+/// begins at the depth `from`. The byte is one that the node keeps, or else one of `key`, which is
+/// a key below it.
 fn byte_on<const P: usize>(
     nodes: &Nodes<P>,
     child: &Child,
@@ -346,7 +348,7 @@ fn byte_on<const P: usize>(
 }
 
 /// Cuts the compressed prefix of a node, so that it begins at `start` in place of `from`. If the
-/// node kept the whole prefix, it keeps the rest of it, or else bytes of a key below it.
+/// node kept the whole prefix, it keeps the rest. Otherwise it gets bytes of `key`, a key below it.
 fn cut_prefix<const P: usize>(
     nodes: &mut Nodes<P>,
     child: &Child,

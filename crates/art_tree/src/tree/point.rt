@@ -23,7 +23,7 @@ use blart_keys::AsBytes;
 /// for, while the pairs are unchanged.
 #[derive(Clone, Copy)]
 pub struct Place {
-    /// A leaf whose key has the first `depth` bytes in common with these. No key has one more.
+    /// A leaf whose key has the first `depth` bytes in common with these. No key has more.
     pub(crate) nearest: LeafId,
     /// The number of bytes that the nearest key has in common with these.
     pub(crate) depth: usize,
@@ -31,7 +31,7 @@ pub struct Place {
     pub(crate) beside: Beside,
     /// The node or the edge where the bytes leave the keys. It may have changed since.
     pub(crate) spot: Spot,
-    /// The byte of an edge to the nearest leaf.
+    /// The byte of the nearest key after the first `depth` bytes.
     pub(crate) byte: u8,
 }
 
@@ -49,7 +49,7 @@ pub(crate) enum Beside {
 pub enum Point {
     /// The tree has no pairs.
     Empty,
-    /// The bytes are those of this leaf's key.
+    /// The key of this leaf has these bytes.
     Exact(LeafId),
     /// The bytes conflict with the keys of these leaves.
     Related {

@@ -79,7 +79,7 @@ fn prune<K: AsBytes + Drop, V: Drop, const P: usize>(
     leaves.law();
 }
 
-/// Removes the leaves from one up to another, but for the last. These are the leaves whose bytes
+/// Removes the leaves from `first` up to `last`, except for `last`. These are the leaves whose bytes
 /// begin with the prefix.
 fn remove_leaves<K: AsBytes + Drop, V: Drop>(
     leaves: &mut Leaves<K, V>,

@@ -56,8 +56,9 @@ impl<K: AsBytes + Drop, V: Drop, const PREFIX_LEN: usize> Tree<K, V, PREFIX_LEN>
     }
 }
 
-/// Returns the leaf with these bytes, with the edges to it, and its position. It reads the row of
-/// the leaf before the leaf, so that neither waits for the other.
+/// Returns the leaf with these bytes, the edges to it and its position, or `None` if there is no
+/// such leaf. It reads the leaf's row before it compares the key, so that neither read waits for
+/// the other.
 fn spot_at<K: AsBytes, V, const P: usize>(
     leaves: &Leaves<K, V>,
     skeleton: &Skeleton<P>,
@@ -134,7 +135,7 @@ impl<const P: usize> Skeleton<P> {
     ghost use Rattle.art_kinds.specs.Nodes.{at};
     ghost use Rattle.art_kinds.specs.declared.records.ids.Child.TheVariants.{Leaf, Inner};
 
-    /// Removes the edge to a leaf, and its node if that has one edge left.
+    /// Removes the edge to a leaf, and the node of that edge if one other edge is left.
     fn unlink<K: AsBytes, V>(&mut self, leaves: &Leaves<K, V>, spot: &LeafSpot)
         requires sound { IsSound K.bytes P leaves.now self.old.nodes self.old.root }
         requires has { Has leaves.now.pairs spot.now.id }
@@ -149,7 +150,7 @@ impl<const P: usize> Skeleton<P> {
         }
     }
 
-    /// Removes the edge of a node to a leaf, and the node if it has one edge left.
+    /// Removes the edge of a node to a leaf, and the node if one other edge is left.
     fn drop_edge<K: AsBytes, V>(
         &mut self,
         leaves: &Leaves<K, V>,
@@ -177,7 +178,7 @@ impl<const P: usize> Skeleton<P> {
         self.merge(above, node, &other.to);
     }
 
-    /// Removes the edge to a leaf from a node that has two others.
+    /// Removes the edge to a leaf from a node that has at least two others.
     fn shrink(&mut self, above: &EdgeAbove, node: &NodeId, byte: u8)
         requires { (keys : ℕ → Option Bytes) × (i : ℕ)
             × IsLeafOf P keys (at self.old.nodes) self.old.root above.now node.now byte i }
@@ -220,8 +221,8 @@ fn other_edge<const P: usize>(nodes: &Nodes<P>, node: &NodeId, byte: u8) -> Edge
     }
 }
 
-/// Joins the compressed prefixes of a node and of its child, with the byte between them. The child
-/// keeps the result.
+/// Joins the compressed prefixes of a node and of its child, with the byte between them, if the
+/// child is a node. The child keeps the first bytes of the result.
 fn join_child<const P: usize>(nodes: &mut Nodes<P>, node: &NodeId, edge: &Edge)
     requires { (keys : ℕ → Option Bytes) × (above : Option (ℕ × ℕ))
         × IsChildBelow P keys (at nodes.old) above node.now edge.now }

@@ -1,4 +1,4 @@
-//! The first and the last pair within a bound, and of those with a prefix.
+//! The first or the last leaf within a bound, and both ends of the leaves with a prefix.
 ghost use Rattle.std.specs.Prelude.{◌≡◌, ◌≢◌, ◌+◌, ◌*◌, ◌<◌, ◌≤◌, [], length, option_map, Some, None, Err, IfSome};
 ghost use Rattle.std.specs.declared.ops.Bound.TheVariants.{Unbounded};
 ghost use Rattle.blart_keys.specs.Bounds.{bound_bytes};

@@ -1,4 +1,5 @@
-//! The inner nodes of a tree with its root, and how an edge is redirected.
+//! The inner nodes of a tree with its root, and how an edge is redirected. Other methods of the
+//! skeleton are beside placements and removals.
 ghost use Rattle.std.specs.Prelude.{◌≡◌, ◌-◌, ◌^◌};
 ghost use Rattle.art_tree.specs.Calls.Removing.{StartsBelow, EndsBelow};
 ghost use Rattle.art_kinds.specs.Nodes.{at};
@@ -44,7 +45,7 @@ impl<const P: usize> Skeleton<P> {
         }
     }
 
-    /// Redirects the edge above a node to the node's number, if the number has changed.
+    /// Redirects the edge above a node to its new number, `now`, if that differs from the old one.
     pub(crate) fn redirect_moved(&mut self, above: &EdgeAbove, node: NodeId, now: NodeId)
         requires leads { LeadsTo (at self.old.nodes) self.old.root above.now (Inner node) }
         requires ascends { AscendsAt (at self.old.nodes) above.now }

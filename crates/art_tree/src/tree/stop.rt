@@ -1,5 +1,5 @@
-//! The descent by the bytes of a query. The prefixes that the nodes keep are compared on the way. A
-//! leaf is read at the end, or if a prefix is longer than the bytes that its node keeps.
+//! The descent by the bytes of a query. It compares the prefixes that the nodes keep. A leaf is read
+//! if the descent comes to it, or if the bytes that a node keeps do not decide.
 ghost use Rattle.std.specs.Prelude.{◌≡◌, ◌+◌, ◌*◌, ◌<◌, ◌≤◌, ℕ, length, Option, Some};
 ghost use Rattle.art_tree.specs.Begins.{Bytes};
 ghost use Rattle.art_tree.specs.Calls.Stops.{OnWay, IsShared, IsStop, IsStep, StopsAt, IsStopBelow, LeavesAtNode, IsEdgeBeside};
@@ -53,21 +53,23 @@ impl Stop {
 /// What follows a node of a descent.
 #[derive(Clone, Copy)]
 enum Step {
-    /// A child of the node, the number of bytes that lead to it, and the byte of its edge.
+    /// The descent goes on to this child. The number of bytes up to it, and the byte of its edge.
     Down(Child, usize, u8),
     /// The end.
     Stops(Stop),
 }
 
-/// The number of bytes that a prefix and a query have in common, and the next byte of the prefix.
+/// What the front of a node and a query have in common.
 #[derive(Clone, Copy)]
 struct Shared {
+    /// The number of their common bytes.
     len: usize,
+    /// The next byte of the front, or 0 if there is none.
     byte: u8,
 }
 
 /// Returns where the descent by the bytes of a query ends, in a tree with some pairs, and the edge
-/// above.
+/// above the leaf, child or node at which it ends.
 pub(crate) fn stop_of<K: AsBytes, V, const P: usize>(
     leaves: &Leaves<K, V>,
     nodes: &Nodes<P>,
@@ -118,6 +120,7 @@ fn stop_at_leaf<K: AsBytes, V, const P: usize>(
     ensures at { StopsAt (at nodes.now) (Leaf id) start result }
     ensures counted { visits.new.count ≡ visits.old.count + 1 }
 {
+    // Only the contract uses the nodes.
     let _nodes = nodes;
     let (key, _) = leaves.read(id, visits);
     let key = key.as_bytes();
@@ -168,8 +171,8 @@ fn step_at<K: AsBytes, V, const P: usize>(
     }
 }
 
-/// Returns the number of bytes that the prefix of a node and a query have in common. They have the
-/// first `start` in common. The kept prefix tells it, if it is the whole prefix or differs.
+/// Returns what the front of a node and a query have in common, of which the first `start` bytes
+/// are known. The kept bytes decide if they differ from the query, or are the whole prefix.
 fn shared_at<K: AsBytes, V, const P: usize>(
     leaves: &Leaves<K, V>,
     nodes: &Nodes<P>,
@@ -205,7 +208,7 @@ fn shared_at<K: AsBytes, V, const P: usize>(
     shared_below(leaves, nodes, node, start, id, query, visits)
 }
 
-/// Does what `shared_at` does, by a leaf below the node.
+/// Like `shared_at`, by a leaf below the node.
 #[cold]
 #[inline(never)]
 fn shared_below<K: AsBytes, V, const P: usize>(
@@ -236,9 +239,8 @@ fn shared_below<K: AsBytes, V, const P: usize>(
     Shared { len, byte }
 }
 
-/// Returns the edge beside a byte that a node lacks, and `true` if the byte is after it. Of two
-/// such edges it returns the one before the byte, since keys that come in ascending order have none
-/// after.
+/// Returns the edge beside a byte that a node lacks, and `true` if the byte is after it. If there
+/// are two, it is the edge before the byte: keys that come in ascending order have only that one.
 pub(crate) fn edge_beside<const P: usize>(
     nodes: &Nodes<P>,
     id: &NodeId,
