@@ -7,7 +7,7 @@ use art_tree::{LeafId, Position, Tree, Visits};
 use blart_keys::AsBytes;
 
 /// Returns the ends without the first leaf, or `None` if that is also the last. `seen` is a guess
-/// of the position of the first leaf, and the call sets it to that of the new first leaf.
+/// of the position of the first leaf, and the call sets it to the position of the new first leaf.
 #[inline(always)]
 fn without_first<K: AsBytes, V, const PREFIX_LEN: usize>(
     tree: &Tree<K, V, PREFIX_LEN>,
@@ -28,7 +28,7 @@ fn without_first<K: AsBytes, V, const PREFIX_LEN: usize>(
 }
 
 /// Returns the ends without the last leaf, or `None` if that is also the first. `seen` is a guess
-/// of the position of the last leaf, and the call sets it to that of the new last leaf.
+/// of the position of the last leaf, and the call sets it to the position of the new last leaf.
 #[inline(always)]
 fn without_last<K: AsBytes, V, const PREFIX_LEN: usize>(
     tree: &Tree<K, V, PREFIX_LEN>,

@@ -57,7 +57,7 @@ impl<K: AsBytes + Drop, V: Drop, const PREFIX_LEN: usize> TreeMap<K, V, PREFIX_L
     }
 
     /// Replaces the pair with the same bytes and returns the old pair, or inserts the pair and
-    /// returns `None`. The key that was handed in is always stored. Errors are those of
+    /// returns `None`. The key that was handed in is always stored. Returns errors like
     /// [`TreeMap::try_insert`].
     ///
     /// Cost: an insertion.

@@ -32,7 +32,7 @@ pub struct OccupiedEntry<'a, K: AsBytes, V, const PREFIX_LEN: usize, T: 'a> {
     ghost stands: { Has map.now id },
 }
 
-/// An [`OccupiedEntry`] of a [`TreeMap`].
+/// An [`OccupiedEntry`] of a [`TreeMap`], for short in the signatures of this crate.
 pub(crate) type Occupied<'a, K, V, const PREFIX_LEN: usize> = OccupiedEntry<
     'a,
     K,

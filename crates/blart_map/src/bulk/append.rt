@@ -15,8 +15,8 @@ use std::alloc::AllocError;
 impl<K: NoPrefixesBytes + Drop, V: Drop, const PREFIX_LEN: usize> TreeMap<K, V, PREFIX_LEN> {
     /// Moves all pairs of the other map into this one. The other map is empty then. If both have a
     /// key with the same bytes, the other map's pair is kept. If all keys of the other map are
-    /// greater than all keys of this one, as after a [`TreeMap::split_off`], the pairs are those of
-    /// this map, followed by those of the other.
+    /// greater than all keys of this one, as after a [`TreeMap::split_off`], the pairs of the other
+    /// map follow the pairs of this one.
     ///
     /// It allocates room for all pairs of the map that has fewer, before any pair moves. If that
     /// fails, both maps are unchanged. If either map is empty, it does not allocate.

@@ -50,7 +50,7 @@ impl<K: NoPrefixesBytes + Drop, V: Drop, const PREFIX_LEN: usize> TreeMap<K, V, 
     /// pairs have the same bytes, the first key is kept, with the last value. Returns an error only
     /// if there is a pair. If there are none, it does not allocate.
     ///
-    /// If there is memory to sort them, it sorts the pairs by their keys' bytes first. Then
+    /// It sorts the pairs by their keys' bytes first, unless that fails to allocate. Then
     /// neighbouring pairs lie side by side, which makes walks over the map faster, and each inner
     /// node is made once.
     ///
@@ -70,7 +70,7 @@ impl<K: NoPrefixesBytes + Drop, V: Drop, const PREFIX_LEN: usize> TreeMap<K, V, 
         let mut items = items;
         match items.sort_by(by_bytes) {
             Ok(()) => TreeMap::of_sorted(alloc, items),
-            // If there is no memory to sort the pairs, they are inserted in the given order.
+            // If sorting fails to allocate, the pairs are inserted in the given order.
             Err(_) => TreeMap::put_in_turn(alloc, items.into_iter()),
         }
     }
