@@ -1,12 +1,11 @@
 -- Lemmas about a list and the list of its items' images.
 use Rattle.std.proofs.Common.{◌≡◌, ℕ, Bool, true, false, cond, ◌||◌, inl, inr, List, [], ◌∷◌, map, refl, sym, ap, ◌∙◌, subst, Some, option_map, find, filter}
-use Rattle.std.specs.Prelude.{Contains, Option, length, filter_map, slice_get, if◌then◌else◌}
-use Rattle.std.specs.List.{AllByRecursion, cons_option, list_any}
-use Rattle.std.specs.Ordering.{nat_cmp}
+use Rattle.std.specs.Prelude.{Contains}
+use Rattle.std.specs.List.{AllByRecursion, list_any}
 use Rattle.std.specs.FinSet as set
-use Rattle.blart_keys.specs.Bytes.{begins, bytes_cmp, common, related}
-use Rattle.blart_keys.specs.Content.{under, IsContent, IsPut, IsOver}
-use Rattle.blart_keys.specs.Fronts.{commons, fronts, parts}
+use Rattle.blart_keys.specs.Bytes.{bytes_cmp, common, related}
+use Rattle.blart_keys.specs.Content.{IsContent, IsPut, IsOver}
+use Rattle.blart_keys.specs.Fronts.{commons, fronts}
 use Rattle.blart_keys.proofs.RankLemmas.{Member, Contains-from_Member, Member-from_Contains, Ranked}
 use Rattle.blart_keys.proofs.ContentLemmas.{Before, Ranked-from_content, content_from_Ranked}
 use Rattle.blart_keys.proofs.PutLemmas.{put_member, member_put}
@@ -33,11 +32,6 @@ module _ {X Y : Type 0} (f : X → Y) where
         | true ↦ ap (λ l. f x ∷ l) (filter-map p xs)
         | false ↦ filter-map p xs
       ]
-
-  -- `filter_map g` of the images is `filter_map` of the items by f and then g
-  pub filter_map-map : {Z : Type 0} (g : Y → Option Z) (xs : List X) → filter_map g (map f xs) ≡ filter_map (λ x. g (f x)) xs
-  filter_map-map g [] = refl
-  filter_map-map g (x ∷ xs) = ap (λ (zs : List _). cons_option (g (f x)) zs) (filter_map-map g xs)
 
   -- ---- elements
 
@@ -131,10 +125,3 @@ module _ {X Y : Type 0} (f : X → Y) where
     -- and the same `fronts`
     pub fronts-map : (xs : List X) → fronts bytes (map f xs) ≡ fronts (λ x. bytes (f x)) xs
     fronts-map xs = ap (λ (l : List (List ℕ)). set.from_list {R = bytes_cmp} l) (commons-map xs)
-
-    -- and the same `parts`
-    pub parts-map : (xs : List X) (q : List ℕ) → parts bytes (map f xs) q ≡ parts (λ x. bytes (f x)) xs q
-    parts-map xs q =
-        let n = length q in
-        let below : filter_map (λ y. slice_get (bytes y) n) (under bytes (map f xs) q) ≡ filter_map (λ x. slice_get (bytes (f x)) n) (under (λ x. bytes (f x)) xs q) = ap (filter_map (λ y. slice_get (bytes y) n)) (filter-map (λ y. begins q (bytes y)) xs) ∙ filter_map-map (λ y. slice_get (bytes y) n) (under (λ x. bytes (f x)) xs q) in
-        rw (fronts-map xs) (ap (λ (l : List ℕ). if set.contains (fronts (λ x. bytes (f x)) xs) q then set.from_list {R = nat_cmp} l else set.empty) below)
