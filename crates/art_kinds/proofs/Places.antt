@@ -68,7 +68,7 @@ module _ (n : ℕ) (index : List ℕ) (children : List Child) (i : IsIndex n ind
       ]
 
   -- one more child, in the first free place
-  module _ (b : ℕ) (to : Child) (small : b < 256) (lt : length (edges_of (table index children)) < 48) (none : child_at (edges_of (table index children)) b ≡ None) where
+  module _ (b : ℕ) (to : Child) (small : b < 256) (fits : length (edges_of (table index children)) + 1 ≤ 48) (none : child_at (edges_of (table index children)) b ≡ None) where
     pub n_lt : n < 48
     n_lt = let e : length (edges_of (table index children)) ≡ n = length-index in omega arith
 

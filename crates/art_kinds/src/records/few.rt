@@ -1,7 +1,8 @@
 //! A node with few children: their bytes in ascending order, and the children beside them.
-ghost use Rattle.std.specs.Prelude.{true, false, ◌≡◌, ◌+◌, ◌-◌, ◌<◌, ◌≤◌, [], ◌∷◌, length, take, None, IsSome};
-ghost use Rattle.art_kinds.specs.Edges.{child_at, Ascends, AddsChild, DropsChild, RedirectsChild, IsNext, IsPrevious, IsEnd, count_below, edges_with, edges_without, edges_with_child, after, before, paired};
+ghost use Rattle.std.specs.Prelude.{true, false, ◌≡◌, ◌+◌, ◌-◌, ◌<◌, ◌≤◌, [], ◌∷◌, length, take, Some, None, IsSome};
+ghost use Rattle.art_kinds.specs.Edges.{child_at, Ascends, IsNext, IsPrevious, IsEnd, count_below, edges_with, edges_without, edges_with_child, after, before, paired};
 
+use crate::records::children::Children;
 use crate::records::ids::{Child, Edge};
 use crate::records::indexed::Indexed;
 use crate::records::link::Link;
@@ -36,16 +37,6 @@ impl<const N: usize> Model for Few<N> {
 }
 
 impl<const N: usize> Few<N> {
-    /// Returns the number of edges.
-    pub(crate) fn count(&self) -> usize
-        ensures count { result ≡ length self.now }
-        ensures ascends { Ascends self.now }
-        ensures few { result ≤ N }
-    {
-        let _children: &[Link; N] = &self.children;
-        self.count as usize
-    }
-
     /// Returns the child of the edge at a byte, if there is one.
     pub(crate) fn find(&self, byte: u8) -> Option<Child>
         ensures { result ≡ child_at self.now byte }
@@ -108,8 +99,7 @@ impl<const N: usize> Few<N> {
         requires few { length few.now ≤ N }
         ensures { result ≡ few.now }
     {
-        // The count says how many places are used, and that these are at most `M`.
-        let count = few.count();
+        let count = few.count as usize;
         let mut bytes = [0; N];
         let mut children = [Link::none(); N];
         copy_in(
@@ -124,13 +114,27 @@ impl<const N: usize> Few<N> {
             children,
         }
     }
+}
 
-    /// Adds an edge at a byte that has none.
-    pub(crate) fn insert(&mut self, byte: u8, to: Child)
-        requires room { length self.old < N }
-        requires absent { child_at self.old byte ≡ None }
-        ensures { AddsChild self.old self.new byte to }
-    {
+impl<const N: usize> Children for Few<N> {
+    ghost edges = { λ s. s };
+
+    ghost places = { Some N };
+
+    fn copy(&self) -> Self {
+        Few {
+            count: self.count,
+            bytes: self.bytes,
+            children: self.children,
+        }
+    }
+
+    fn count(&self) -> usize {
+        let _children: &[Link; N] = &self.children;
+        self.count as usize
+    }
+
+    fn insert(&mut self, byte: u8, to: Child) {
         insert_in(
             &mut self.bytes,
             &mut self.children,
@@ -141,11 +145,7 @@ impl<const N: usize> Few<N> {
         self.count += 1;
     }
 
-    /// Removes the edge at a byte.
-    pub(crate) fn remove(&mut self, byte: u8)
-        requires { IsSome (child_at self.old byte) }
-        ensures { DropsChild self.old self.new byte }
-    {
+    fn remove(&mut self, byte: u8) {
         remove_in(
             &mut self.bytes,
             &mut self.children,
@@ -155,11 +155,7 @@ impl<const N: usize> Few<N> {
         self.count -= 1;
     }
 
-    /// Redirects the edge at a byte.
-    pub(crate) fn redirect(&mut self, byte: u8, to: Child)
-        requires { IsSome (child_at self.old byte) }
-        ensures { RedirectsChild self.old self.new byte to }
-    {
+    fn redirect(&mut self, byte: u8, to: Child) {
         redirect_in(
             &self.bytes,
             &mut self.children,

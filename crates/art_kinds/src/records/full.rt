@@ -1,7 +1,8 @@
 //! A node with room for a child at each byte.
-ghost use Rattle.std.specs.Prelude.{true, false, ℕ, ◌≡◌, ◌+◌, ◌<◌, ◌≤◌, length, None, IsSome};
-ghost use Rattle.art_kinds.specs.Edges.{child_at, Ascends, AddsChild, DropsChild, RedirectsChild, IsFrom, IsNext, IsPrevious, IsEnd};
+ghost use Rattle.std.specs.Prelude.{true, false, ℕ, ◌≡◌, ◌+◌, ◌<◌, ◌≤◌, length, None};
+ghost use Rattle.art_kinds.specs.Edges.{child_at, IsFrom, IsNext, IsPrevious, IsEnd};
 
+use crate::records::children::Children;
 use crate::records::ids::{Child, Edge};
 use crate::records::indexed::Indexed;
 use crate::records::link::OptionLink;
@@ -49,16 +50,6 @@ impl Full {
             }
         }
         edges
-    }
-
-    /// Returns the number of edges.
-    pub(crate) fn count(&self) -> usize
-        ensures count { result ≡ length self.now }
-        ensures ascends { Ascends self.now }
-        ensures few { result ≤ 256 }
-        ensures bytes { (c : ℕ) → 256 ≤ c → child_at self.now c ≡ None }
-    {
-        self.count
     }
 
     /// Returns the child of the edge at a byte, if there is one.
@@ -138,30 +129,35 @@ impl Full {
     {
         self.edge_below(byte as usize)
     }
+}
 
-    /// Adds an edge at a byte that has none.
-    pub(crate) fn insert(&mut self, byte: u8, to: Child)
-        requires { child_at self.old byte ≡ None }
-        ensures { AddsChild self.old self.new byte to }
-    {
+impl Children for Full {
+    ghost edges = { λ s. s };
+
+    ghost places = { None };
+
+    fn copy(&self) -> Self {
+        Full {
+            count: self.count,
+            children: self.children,
+        }
+    }
+
+    fn count(&self) -> usize {
+        self.count
+    }
+
+    fn insert(&mut self, byte: u8, to: Child) {
         self.children[byte as usize] = OptionLink::of(to);
         self.count += 1;
     }
 
-    /// Removes the edge at a byte.
-    pub(crate) fn remove(&mut self, byte: u8)
-        requires { IsSome (child_at self.old byte) }
-        ensures { DropsChild self.old self.new byte }
-    {
+    fn remove(&mut self, byte: u8) {
         self.children[byte as usize] = OptionLink::none();
         self.count -= 1;
     }
 
-    /// Redirects the edge at a byte.
-    pub(crate) fn redirect(&mut self, byte: u8, to: Child)
-        requires { IsSome (child_at self.old byte) }
-        ensures { RedirectsChild self.old self.new byte to }
-    {
+    fn redirect(&mut self, byte: u8, to: Child) {
         self.children[byte as usize] = OptionLink::of(to);
     }
 }

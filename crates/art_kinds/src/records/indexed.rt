@@ -1,7 +1,8 @@
 //! A node with an index of its children by byte.
-ghost use Rattle.std.specs.Prelude.{true, false, ℕ, ◌≡◌, ◌+◌, ◌<◌, ◌≤◌, length, None, IsSome, slice_index_or};
-ghost use Rattle.art_kinds.specs.Edges.{child_at, Ascends, AddsChild, DropsChild, RedirectsChild, IsFrom, IsNext, IsPrevious, IsEnd, moved};
+ghost use Rattle.std.specs.Prelude.{true, false, ℕ, ◌≡◌, ◌+◌, ◌<◌, ◌≤◌, length, Some, None, slice_index_or};
+ghost use Rattle.art_kinds.specs.Edges.{child_at, IsFrom, IsNext, IsPrevious, IsEnd, moved};
 
+use crate::records::children::Children;
 use crate::records::few::Few;
 use crate::records::full::Full;
 use crate::records::ids::{Child, Edge};
@@ -70,16 +71,6 @@ impl Indexed {
             }
         }
         edges
-    }
-
-    /// Returns the number of edges.
-    pub(crate) fn count(&self) -> usize
-        ensures count { result ≡ length self.now }
-        ensures ascends { Ascends self.now }
-        ensures few { result ≤ 48 }
-        ensures bytes { (c : ℕ) → 256 ≤ c → child_at self.now c ≡ None }
-    {
-        self.count
     }
 
     /// Returns the child of the edge at a byte, if there is one.
@@ -166,24 +157,34 @@ impl Indexed {
     {
         self.edge_below(byte as usize)
     }
+}
 
-    /// Adds an edge at a byte that has none.
-    pub(crate) fn insert(&mut self, byte: u8, to: Child)
-        requires room { length self.old < 48 }
-        requires absent { child_at self.old byte ≡ None }
-        ensures { AddsChild self.old self.new byte to }
-    {
+impl Children for Indexed {
+    ghost edges = { λ s. s };
+
+    ghost places = { Some 48 };
+
+    fn copy(&self) -> Self {
+        Indexed {
+            count: self.count,
+            index: self.index,
+            children: self.children,
+        }
+    }
+
+    fn count(&self) -> usize {
+        self.count
+    }
+
+    fn insert(&mut self, byte: u8, to: Child) {
         let place = self.count;
         self.children[place] = Link::of(to);
         self.index[byte as usize] = place as u8;
         self.count = place + 1;
     }
 
-    /// Removes the edge at a byte. The last child moves to the place that becomes free.
-    pub(crate) fn remove(&mut self, byte: u8)
-        requires { IsSome (child_at self.old byte) }
-        ensures { DropsChild self.old self.new byte }
-    {
+    /// The last child moves to the place that becomes free.
+    fn remove(&mut self, byte: u8) {
         let last = self.count - 1;
         let place = self.index[byte as usize];
         self.index[byte as usize] = 48;
@@ -192,11 +193,7 @@ impl Indexed {
         self.count = last;
     }
 
-    /// Redirects the edge at a byte.
-    pub(crate) fn redirect(&mut self, byte: u8, to: Child)
-        requires { IsSome (child_at self.old byte) }
-        ensures { RedirectsChild self.old self.new byte to }
-    {
+    fn redirect(&mut self, byte: u8, to: Child) {
         let place = self.index[byte as usize];
         self.children[place as usize] = Link::of(to);
     }

@@ -5,6 +5,7 @@ ghost use Rattle.art_slots.specs.Store.{slot_at};
 ghost use Rattle.art_kinds.specs.Narrow.{IsNarrow};
 ghost use Rattle.art_kinds.specs.Nodes.{at, live, room, FitsNew, FitsMore, HasPlace, Lowers, SameNodes, SameSpares, MoreSpares, Makes, Renames, AddsEdgeTo, Redirects, DropsEdge, Reprefixes, JoinsPrefix, CutsPrefix, Frees};
 
+use crate::records::children::Children;
 use crate::records::few::Few;
 use crate::records::full::Full;
 use crate::records::ids::{Child, Edge, Kind, NodeId};

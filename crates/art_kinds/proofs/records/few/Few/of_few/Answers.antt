@@ -17,18 +17,16 @@ pub invariant_of-result : goal.invariant_of-result
 invariant_of-result g c =
     let i = c.few.inside in
     let v = c.few.invariant in
-    let k = c.count-count in
     let nb = c.copy_in.new.bytes in
     let nc = c.copy_in.new.children in
     let w : i.count ≤ g.row.M = v.sorted.within in
-    let is : k.result ≡ i.count = k.ensures.count ∙ ap (λ (z : List Edge). length z) (sym c.few.view_is) ∙ length-take-le i.count (paired i.bytes i.children) (omega (arith, v.sorted.long)) in
-    let e = same k.result i.bytes nb i.children nc (omega (arith, v.wide)) (omega (arith, v.long)) c.copy_in.ensures.bytes c.copy_in.ensures.children
-    ∙ ap (λ n. take n (paired i.bytes i.children)) is in
+    let is : length c.args.few.now ≡ i.count = ap (λ (z : List Edge). length z) (sym c.few.view_is) ∙ length-take-le i.count (paired i.bytes i.children) (omega (arith, v.sorted.long)) in
+    let e = same i.count i.bytes nb i.children nc (omega (arith, v.wide)) (omega (arith, v.long)) c.copy_in.ensures.bytes c.copy_in.ensures.children in
     let wide : length nb ≡ g.row.N = c.copy_in.auto.bytes ∙ length-replicate {A = ℕ} g.row.N 0 in
     let long : length nc ≡ g.row.N = c.copy_in.auto.children ∙ length-replicate g.row.N c.none-children.result in
     record {
       sorted = record {
-        within = omega (arith, k.ensures.count, c.requires.few);
+        within = omega (arith, is, c.requires.few);
         long = length-paired nb nc (long ∙ sym wide) ∙ wide;
         ascends = subst (λ (z : List Edge). Ascends z) (sym e) v.sorted.ascends;
         small = λ b l. ap (λ (z : List Edge). child_at z b) e ∙ v.sorted.small b l;
@@ -42,8 +40,5 @@ pub returns : goal.returns
 returns g c =
     let i = c.few.inside in
     let v = c.few.invariant in
-    let k = c.count-count in
     let w : i.count ≤ g.row.M = v.sorted.within in
-    let is : k.result ≡ i.count = k.ensures.count ∙ ap (λ (z : List Edge). length z) (sym c.few.view_is) ∙ length-take-le i.count (paired i.bytes i.children) (omega (arith, v.sorted.long)) in
-    same k.result i.bytes c.copy_in.new.bytes i.children c.copy_in.new.children (omega (arith, v.wide)) (omega (arith, v.long)) c.copy_in.ensures.bytes c.copy_in.ensures.children
-    ∙ ap (λ n. take n (paired i.bytes i.children)) is ∙ c.few.view_is
+    same i.count i.bytes c.copy_in.new.bytes i.children c.copy_in.new.children (omega (arith, v.wide)) (omega (arith, v.long)) c.copy_in.ensures.bytes c.copy_in.ensures.children ∙ c.few.view_is

@@ -1,6 +1,6 @@
 use Rattle.std.proofs.Common.{arith}
 use Rattle.art_kinds.proofs.Places.{index_adds, index_more, n_lt}
-use Rattle.art_kinds.proofs.records.indexed.Indexed.insert.Goals as goal
+use Rattle.art_kinds.proofs.records.indexed.IndexedChildren.insert.Goals as goal
 
 pub listed : goal.listed
 listed c =

@@ -1,8 +1,8 @@
 use Rattle.std.proofs.Common.{List, length, ap, sym, ◌∙◌, subst}
 use Rattle.art_kinds.specs.Edges.{Ascends}
 use Rattle.art_kinds.specs.declared.records.ids.Edge.{Edge}
-use Rattle.art_kinds.proofs.Tables.{length-edges, edges-Ascends, edges-bytes, filled-few}
-use Rattle.art_kinds.proofs.records.full.Full.count.Goals as goal
+use Rattle.art_kinds.proofs.Tables.{length-edges, edges-Ascends, edges-bytes}
+use Rattle.art_kinds.proofs.records.full.FullChildren.count.Goals as goal
 
 pub returns-clause-count : goal.returns-clause-count
 returns-clause-count c =
@@ -11,9 +11,6 @@ returns-clause-count c =
 
 pub returns-clause-ascends : goal.returns-clause-ascends
 returns-clause-ascends c = subst (λ (es : List Edge). Ascends es) c.self.view_is (edges-Ascends c.self.inside.children 0)
-
-pub returns-clause-few : goal.returns-clause-few
-returns-clause-few c = filled-few c.self.inside.count c.self.inside.children c.self.invariant
 
 pub returns-clause-bytes : goal.returns-clause-bytes
 returns-clause-bytes c =

@@ -1,6 +1,6 @@
 use Rattle.std.proofs.Common.{arith}
 use Rattle.art_kinds.proofs.Places.{place_lt, place_is, index_redirects, index_same}
-use Rattle.art_kinds.proofs.records.indexed.Indexed.redirect.Goals as goal
+use Rattle.art_kinds.proofs.records.indexed.IndexedChildren.redirect.Goals as goal
 
 pub listed : goal.listed
 listed c =

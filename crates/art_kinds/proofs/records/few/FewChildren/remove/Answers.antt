@@ -1,7 +1,7 @@
 use Rattle.std.proofs.Common.{◌∙◌, sym}
 use Rattle.art_kinds.specs.Edges.{paired}
 use Rattle.art_kinds.proofs.EdgeFills.{sorted_drops, sorted_less}
-use Rattle.art_kinds.proofs.records.few.Few.remove.Goals as goal
+use Rattle.art_kinds.proofs.records.few.FewChildren.remove.Goals as goal
 use Rattle.art_kinds.proofs.Pairs.{same-paired}
 
 pub invariant_of-self : goal.invariant_of-self

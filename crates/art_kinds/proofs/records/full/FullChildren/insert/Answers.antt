@@ -1,7 +1,7 @@
 use Rattle.std.proofs.Common.{◌<◌, Some, length, arith}
 use Rattle.std.proofs.lemmas.List.{length-set}
-use Rattle.art_kinds.proofs.Tables.{table_redirects, filled-same}
-use Rattle.art_kinds.proofs.records.full.Full.redirect.Goals as goal
+use Rattle.art_kinds.proofs.Tables.{table_adds, filled-adds}
+use Rattle.art_kinds.proofs.records.full.FullChildren.insert.Goals as goal
 
 pub invariant_of-self : goal.invariant_of-self
 invariant_of-self c =
@@ -9,7 +9,7 @@ invariant_of-self c =
     let t = i.children in
     let b = c.args.byte in
     let l : b < length t = omega (arith, c.self.invariant.wide, c.ranges.byte.fits) in
-    rw c.of.ensures (filled-same t _ i.count b c.args.to (length-set t b (Some c.args.to)) c.self.invariant (table_redirects t b l c.args.to (rw c.self.view_is c.requires)))
+    rw c.of.ensures (filled-adds t _ i.count b c.args.to (length-set t b (Some c.args.to)) c.self.invariant (table_adds t b l c.args.to (rw c.self.view_is c.requires.absent)))
 
 pub returns : goal.returns
 returns c =
@@ -17,4 +17,4 @@ returns c =
     let t = i.children in
     let b = c.args.byte in
     let l : b < length t = omega (arith, c.self.invariant.wide, c.ranges.byte.fits) in
-    rw c.of.ensures (rw (← c.self.view_is) (table_redirects t b l c.args.to (rw c.self.view_is c.requires)))
+    rw c.of.ensures (rw (← c.self.view_is) (table_adds t b l c.args.to (rw c.self.view_is c.requires.absent)))

@@ -1,7 +1,7 @@
 use Rattle.std.proofs.Common.{◌∙◌, sym, refl}
 use Rattle.art_kinds.specs.Edges.{paired}
 use Rattle.art_kinds.proofs.EdgeFills.{sorted_redirects, sorted_same}
-use Rattle.art_kinds.proofs.records.few.Few.redirect.Goals as goal
+use Rattle.art_kinds.proofs.records.few.FewChildren.redirect.Goals as goal
 use Rattle.art_kinds.proofs.Pairs.{same-paired}
 
 pub invariant_of-self : goal.invariant_of-self

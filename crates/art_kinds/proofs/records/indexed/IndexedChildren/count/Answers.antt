@@ -3,7 +3,7 @@ use Rattle.art_kinds.specs.Edges.{Ascends, table}
 use Rattle.art_kinds.specs.declared.records.ids.Edge.{Edge}
 use Rattle.art_kinds.proofs.Tables.{edges-Ascends, edges-bytes}
 use Rattle.art_kinds.proofs.Places.{length-index, length-table}
-use Rattle.art_kinds.proofs.records.indexed.Indexed.count.Goals as goal
+use Rattle.art_kinds.proofs.records.indexed.IndexedChildren.count.Goals as goal
 
 pub returns-clause-count : goal.returns-clause-count
 returns-clause-count c =
