@@ -10,7 +10,7 @@ use Rattle.art_kinds.specs.declared.records.ids.Edge.{Edge}
 use Rattle.art_kinds.specs.declared.records.ids.Kind.{Kind}
 use Rattle.art_kinds.specs.declared.records.ids.Kind.TheVariants.{Four}
 use Rattle.art_slots.specs.Store.{Store, slot_at, used_count, SameRecords}
-use Rattle.art_kinds.proofs.Changes.{put, put-on, put-off, put-live, holds_of, some_such}
+use Rattle.art_kinds.proofs.Changes.{put, put-on, put-off, put-live, holds_of}
 use Rattle.art_kinds.proofs.Growing.{at_is, moves, grows, makes-room, has_place, kept_nodes, kept_spares, enough}
 use Rattle.art_kinds.proofs.Rooms.{grown-most, room-more}
 
@@ -150,18 +150,12 @@ same_nodes {s} f a b c d h0 h1 h2 h3 j = of_kind (j % 4) (j / 4) ∙ ap (λ (z :
     of_kind (suc (suc (suc k))) = h3
 
 -- if the nodes are unchanged, a node keeps its number
-pub keeps_number : {was is : ℕ → Option Node} → ((j : ℕ) → is j ≡ was j) → (n : ℕ) → IsSome (was n) → Renames was is n n
+keeps_number : {was is : ℕ → Option Node} → ((j : ℕ) → is j ≡ was j) → (n : ℕ) → IsSome (was n) → Renames was is n n
 keeps_number {was} {is} same n h = of_node (was n) refl h
   where
     of_node : (o : Option Node) → was n ≡ o → IsSome o → Renames was is n n
     of_node None e h = absurd (false≢true h)
     of_node (Some x) e h = record { node = x; was = e; is = same n ∙ e; fresh = λ off. absurd (off refl); gone = λ off. absurd (off refl); others = λ j p q. same j }
-
--- if there is a node at a place of a kind, there is a node under its number
-pub numbered : (v : Nodes) (K : Kind) (i : ℕ) (R : Node → Type 0) → IsSomeAnd (slot_at (store_of v (digit K)) i) R → IsSome (at v (4 * i + digit K))
-numbered v K i R h =
-    let l = digit-lt K in
-    subst IsSome (sym (at_is v (4 * i + digit K) (digit K) i (omega arith) (omega arith))) (some_such R (slot_at (store_of v (digit K)) i) h)
 
 -- if the nodes are unchanged, a node of a kind keeps its number
 pub keeps_kind : (v t : Nodes) → SameNodes v t → (K : Kind) (i : ℕ) {m : ℕ} → m ≡ 4 * i + digit K → IsSome (slot_at (store_of v (digit K)) i) → Renames (at v) (at t) (4 * i + digit K) m

@@ -3,7 +3,7 @@ use Rattle.std.proofs.Common.{◌≡◌, ◌≢◌, ℕ, zero, suc, ◌+◌, ◌
 use Rattle.std.proofs.lemmas.Bool.{ne_eqb}
 use Rattle.std.proofs.lemmas.Bool.Decides.{leb_tells}
 use Rattle.std.proofs.lemmas.List.{get_or-set_same, get_or-set_other, get_or_past}
-use Rattle.std.proofs.lemmas.List.Sums.{sum_by-cons, count_by-le-length}
+use Rattle.std.proofs.lemmas.List.Sums.{sum_by-cons}
 use Rattle.art_slots.proofs.StoreSlots.{one, count-set}
 use Rattle.art_kinds.specs.Edges.{child_at, AscendsAbove, Ascends, AddsChild, DropsChild, RedirectsChild, IsFrom, IsNext, IsPrevious, IsEnd, Filled, edges_from, edges_of}
 use Rattle.art_kinds.specs.declared.records.ids.Child.{Child}
@@ -147,6 +147,10 @@ not-empty (x ∷ es) l h = let e : Some x.to ≡ None = sym (first_there x es) �
 pub edges-bytes : (t : List (Option Child)) → length t ≡ 256 → (c : ℕ) → 256 ≤ c → child_at (edges_of t) c ≡ None
 edges-bytes t w c l = child_at-edges t c ∙ get_or_past t c None (omega arith)
 
+-- the first edge with a byte that is not less than 0 has the least byte
+pub least-of-from : (es : List Edge) (e : Edge) → IsFrom es 0 (Some e) → IsEnd true es e
+least-of-from es e h = record { there = h.1; end = λ c lt. h.2 c (omega arith) lt }
+
 -- the last edge with a byte less than 256 has the greatest byte
 pub greatest-of-below : (es : List Edge) (e : Edge) → ((c : ℕ) → 256 ≤ c → child_at es c ≡ None) → IsPrevious es 256 (Some e) → IsEnd false es e
 greatest-of-below es e w h = record {
@@ -159,9 +163,6 @@ greatest-of-below es e w h = record {
 
 pub none-below : (es : List Edge) → ((c : ℕ) → 256 ≤ c → child_at es c ≡ None) → IsPrevious es 256 None → (c : ℕ) → child_at es c ≡ None
 none-below es w h c = elim (leb_tells 256 c) [ inl p ↦ w c p.1 | inr p ↦ h c p.1 ]
-
-pub filled-few : (n : ℕ) (t : List (Option Child)) → Filled n t → n ≤ 256
-filled-few n t f = let w = f.wide in let c = f.counted in omega (arith, count_by-le-length is_some t)
 
 pub filled-same : (t u : List (Option Child)) (n b : ℕ) (to : Child) → length u ≡ length t → Filled n t → RedirectsChild (edges_of t) (edges_of u) b to → Filled n u
 filled-same t u n b to same f a =

@@ -1,5 +1,5 @@
 //! A node with few children: their bytes in ascending order, and the children beside them.
-ghost use Rattle.std.specs.Prelude.{true, false, ◌≡◌, ◌+◌, ◌-◌, ◌<◌, ◌≤◌, [], ◌∷◌, length, take, Some, None, IsSome};
+ghost use Rattle.std.specs.Prelude.{◌≡◌, ◌+◌, ◌-◌, ◌<◌, ◌≤◌, [], ◌∷◌, length, take, Some, None, IsSome};
 ghost use Rattle.art_kinds.specs.Edges.{child_at, Ascends, IsNext, IsPrevious, IsEnd, count_below, edges_with, edges_without, edges_with_child, after, before, paired};
 
 use crate::records::children::Children;
@@ -48,26 +48,16 @@ impl<const N: usize> Few<N> {
         )
     }
 
-    /// Returns the edge with the least byte.
-    pub(crate) fn first(&self) -> Edge
+    /// Returns the edge with the least byte if `is_first` is set, or else the one with the
+    /// greatest.
+    pub(crate) fn end_edge(&self, is_first: bool) -> Edge
         requires { 0 < length self.now }
-        ensures { IsEnd true self.now result }
+        ensures { IsEnd is_first self.now result }
     {
+        let place = if is_first { 0 } else { self.count as usize - 1 };
         Edge {
-            byte: self.bytes[0],
-            to: self.children[0].child(),
-        }
-    }
-
-    /// Returns the edge with the greatest byte.
-    pub(crate) fn last(&self) -> Edge
-        requires { 0 < length self.now }
-        ensures { IsEnd false self.now result }
-    {
-        let last = self.count as usize - 1;
-        Edge {
-            byte: self.bytes[last],
-            to: self.children[last].child(),
+            byte: self.bytes[place],
+            to: self.children[place].child(),
         }
     }
 
@@ -102,12 +92,8 @@ impl<const N: usize> Few<N> {
         let count = few.count as usize;
         let mut bytes = [0; N];
         let mut children = [Link::none(); N];
-        copy_in(
-            &mut bytes,
-            &mut children,
-            &few.bytes[..count],
-            &few.children[..count],
-        );
+        bytes[..count].copy_from_slice(&few.bytes[..count]);
+        children[..count].copy_from_slice(&few.children[..count]);
         Few {
             count: count as u8,
             bytes,
@@ -309,15 +295,4 @@ impl Few<16> {
         }
         edges
     }
-}
-
-/// Copies bytes and children to the front of other slices.
-fn copy_in(bytes: &mut [u8], children: &mut [Link], from_bytes: &[u8], from_children: &[Link])
-    requires bytes { length from_bytes.now ≤ length bytes.old }
-    requires children { length from_children.now ≤ length children.old }
-    ensures bytes { take (length from_bytes.now) bytes.new ≡ from_bytes.now }
-    ensures children { take (length from_children.now) children.new ≡ from_children.now }
-{
-    bytes[..from_bytes.len()].copy_from_slice(from_bytes);
-    children[..from_children.len()].copy_from_slice(from_children);
 }

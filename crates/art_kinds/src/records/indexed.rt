@@ -1,5 +1,5 @@
 //! A node with an index of its children by byte.
-ghost use Rattle.std.specs.Prelude.{true, false, ℕ, ◌≡◌, ◌+◌, ◌<◌, ◌≤◌, length, Some, None, slice_index_or};
+ghost use Rattle.std.specs.Prelude.{ℕ, ◌≡◌, ◌+◌, ◌<◌, ◌≤◌, length, Some, None, slice_index_or};
 ghost use Rattle.art_kinds.specs.Edges.{child_at, IsFrom, IsNext, IsPrevious, IsEnd, moved};
 
 use crate::records::children::Children;
@@ -122,23 +122,18 @@ impl Indexed {
         None
     }
 
-    /// Returns the edge with the least byte.
-    pub(crate) fn first(&self) -> Edge
+    /// Returns the edge with the least byte if `is_first` is set, or else the one with the
+    /// greatest.
+    pub(crate) fn end_edge(&self, is_first: bool) -> Edge
         requires { 0 < length self.now }
-        ensures { IsEnd true self.now result }
+        ensures { IsEnd is_first self.now result }
     {
-        match self.edge_from(0) {
-            Some(edge) => edge,
-            None => unreachable!(),
-        }
-    }
-
-    /// Returns the edge with the greatest byte.
-    pub(crate) fn last(&self) -> Edge
-        requires { 0 < length self.now }
-        ensures { IsEnd false self.now result }
-    {
-        match self.edge_below(256) {
+        let found = if is_first {
+            self.edge_from(0)
+        } else {
+            self.edge_below(256)
+        };
+        match found {
             Some(edge) => edge,
             None => unreachable!(),
         }

@@ -1,8 +1,8 @@
 //! The record of an inner node, and the operations on one record of a store.
-ghost use Rattle.std.specs.Prelude.{◌≡◌, ◌+◌, ◌<◌, ◌≤◌, ◌^◌, take, length, None, IsSome, IsSomeAnd, OnOk, OnErr, IfOk};
+ghost use Rattle.std.specs.Prelude.{◌≡◌, ◌+◌, ◌<◌, ◌≤◌, ◌^◌, take, length, None, IsSome, IsSomeAnd, OnOk, OnErr};
 ghost use Rattle.art_kinds.specs.Edges.{child_at, AddsChild, DropsChild, RedirectsChild};
 ghost use Rattle.art_kinds.specs.OneKinds.{FitsIn, IsOneKind, Rewires, Changes, Grows};
-ghost use Rattle.art_slots.specs.Store.{slot_at, SameRecords};
+ghost use Rattle.art_slots.specs.Store.{slot_at};
 
 use crate::records::children::Children;
 use crate::records::ids::Child;
@@ -51,16 +51,8 @@ impl<C: Children, const P: usize> Inner<C, P> {
             edges,
             prefix: [0; P],
         };
-        node.set_prefix(prefix);
+        node.used = copy_front(&mut node.prefix, prefix);
         node
-    }
-
-    /// Replaces the node's prefix with the first `P` bytes of `prefix`.
-    #[inline(always)]
-    fn set_prefix(&mut self, prefix: &[u8])
-        ensures { self.new ≡ record self.old { prefix = take P prefix.now } }
-    {
-        self.used = copy_front(&mut self.prefix, prefix);
     }
 
     /// Returns the node with other edges, which may be of another kind.
@@ -88,21 +80,6 @@ impl<C: Children, const P: usize> Clone for Inner<C, P> {
             edges: self.edges.copy(),
         })
     }
-}
-
-/// Returns copies of two stores, or an error if it fails to allocate.
-pub(super) fn copy_both<C: Children, D: Children, const P: usize>(
-    first: &Store<Inner<C, P>>,
-    second: &Store<Inner<D, P>>,
-) -> Result<(Store<Inner<C, P>>, Store<Inner<D, P>>), AllocError>
-    requires first { IsOneKind P C.places first.now }
-    requires second { IsOneKind P D.places second.now }
-    ensures same { IfOk result (λ copies. SameRecords first.now copies.0
-        × SameRecords second.now copies.1) }
-    ensures kinds { IfOk result (λ copies. IsOneKind P C.places copies.0
-        × IsOneKind P D.places copies.1) }
-{
-    Ok((first.clone()?, second.clone()?))
 }
 
 /// Returns the number of edges of the node at a place.

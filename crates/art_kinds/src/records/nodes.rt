@@ -1,8 +1,9 @@
 //! The inner nodes under their numbers.
-ghost use Rattle.std.specs.Prelude.{true, false, ◌≡◌, ℕ, ◌+◌, ◌%◌, ◌*◌, ◌/◌, ◌-◌, ◌<◌, ◌≤◌, ◌^◌, ◌++◌, ◌∷◌, length, take, drop, slice_get, None, Some, IsSome, is_some, IsSomeAnd, OnOk, IfOk, OnErr};
+ghost use Rattle.std.specs.Prelude.{true, ◌≡◌, ℕ, ◌+◌, ◌%◌, ◌*◌, ◌/◌, ◌-◌, ◌<◌, ◌≤◌, ◌^◌, ◌++◌, ◌∷◌, length, take, drop, slice_get, None, Some, IsSome, is_some, IsSomeAnd, OnOk, IfOk, OnErr};
 ghost use Rattle.art_kinds.specs.Edges.{child_at, Ascends, IsNext, IsPrevious, IsEnd};
 ghost use Rattle.art_slots.specs.Store.{slot_at};
 ghost use Rattle.art_kinds.specs.Narrow.{IsNarrow};
+ghost use Rattle.art_kinds.specs.Refs.{edges_of};
 ghost use Rattle.art_kinds.specs.Nodes.{at, live, room, FitsNew, FitsMore, HasPlace, Lowers, SameNodes, SameSpares, MoreSpares, Makes, Renames, AddsEdgeTo, Redirects, DropsEdge, Reprefixes, JoinsPrefix, CutsPrefix, Frees};
 
 use crate::records::children::Children;
@@ -56,6 +57,21 @@ impl<'a, const P: usize> Model for NodeRef<'a, P> {
 }
 
 impl<'a, const P: usize> NodeRef<'a, P> {
+    /// Returns a reference to a node, with this reference to its edges.
+    #[inline(always)]
+    fn new<C: Children>(record: &'a Inner<C, P>, edges: EdgesRef<'a>) -> Self
+        requires small { P < 2 ^ 62 }
+        requires edges { edges_of edges ≡ record.now.edges }
+        ensures { result ≡ record.now }
+    {
+        NodeRef {
+            depth: record.depth,
+            used: record.used,
+            prefix: &record.prefix,
+            edges,
+        }
+    }
+
     /// Returns the depth of the node, which is the number of bytes that all keys below it share.
     pub fn depth(&self) -> usize
         ensures { result ≡ self.now.depth }
@@ -115,36 +131,11 @@ impl<'a, const P: usize> NodeRef<'a, P> {
         requires { 0 < length self.now.edges }
         ensures { IsEnd is_first self.now.edges result }
     {
-        if is_first {
-            self.first_edge()
-        } else {
-            self.last_edge()
-        }
-    }
-
-    /// Returns the edge with the least byte.
-    fn first_edge(&self) -> Edge
-        requires { 0 < length self.now.edges }
-        ensures { IsEnd true self.now.edges result }
-    {
         match &self.edges {
-            EdgesRef::Four(edges) => edges.first(),
-            EdgesRef::Sixteen(edges) => edges.first(),
-            EdgesRef::FortyEight(edges) => edges.first(),
-            EdgesRef::Full(edges) => edges.first(),
-        }
-    }
-
-    /// Returns the edge with the greatest byte.
-    fn last_edge(&self) -> Edge
-        requires { 0 < length self.now.edges }
-        ensures { IsEnd false self.now.edges result }
-    {
-        match &self.edges {
-            EdgesRef::Four(edges) => edges.last(),
-            EdgesRef::Sixteen(edges) => edges.last(),
-            EdgesRef::FortyEight(edges) => edges.last(),
-            EdgesRef::Full(edges) => edges.last(),
+            EdgesRef::Four(edges) => edges.end_edge(is_first),
+            EdgesRef::Sixteen(edges) => edges.end_edge(is_first),
+            EdgesRef::FortyEight(edges) => edges.end_edge(is_first),
+            EdgesRef::Full(edges) => edges.end_edge(is_first),
         }
     }
 
@@ -232,13 +223,11 @@ impl<const P: usize> Nodes<P> {
         if P >= PREFIX_BOUND {
             return Err(AllocError);
         }
-        let (fours, sixteens) = inner::copy_both(&self.fours, &self.sixteens)?;
-        let (forty_eights, fulls) = inner::copy_both(&self.forty_eights, &self.fulls)?;
         Ok(Nodes {
-            fours,
-            sixteens,
-            forty_eights,
-            fulls,
+            fours: self.fours.clone()?,
+            sixteens: self.sixteens.clone()?,
+            forty_eights: self.forty_eights.clone()?,
+            fulls: self.fulls.clone()?,
         })
     }
 
@@ -287,39 +276,19 @@ impl<const P: usize> Nodes<P> {
         match parts.kind {
             Kind::Four => {
                 let record = self.fours.read(parts.place);
-                NodeRef {
-                    depth: record.depth,
-                    used: record.used,
-                    prefix: &record.prefix,
-                    edges: EdgesRef::Four(&record.edges),
-                }
+                NodeRef::new(record, EdgesRef::Four(&record.edges))
             }
             Kind::Sixteen => {
                 let record = self.sixteens.read(parts.place);
-                NodeRef {
-                    depth: record.depth,
-                    used: record.used,
-                    prefix: &record.prefix,
-                    edges: EdgesRef::Sixteen(&record.edges),
-                }
+                NodeRef::new(record, EdgesRef::Sixteen(&record.edges))
             }
             Kind::FortyEight => {
                 let record = self.forty_eights.read(parts.place);
-                NodeRef {
-                    depth: record.depth,
-                    used: record.used,
-                    prefix: &record.prefix,
-                    edges: EdgesRef::FortyEight(&record.edges),
-                }
+                NodeRef::new(record, EdgesRef::FortyEight(&record.edges))
             }
             Kind::Full => {
                 let record = self.fulls.read(parts.place);
-                NodeRef {
-                    depth: record.depth,
-                    used: record.used,
-                    prefix: &record.prefix,
-                    edges: EdgesRef::Full(&record.edges),
-                }
+                NodeRef::new(record, EdgesRef::Full(&record.edges))
             }
         }
     }
