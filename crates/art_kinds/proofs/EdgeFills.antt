@@ -1,5 +1,5 @@
 -- A node gets a child, loses a child, or has an edge redirected.
-use Rattle.std.proofs.Common.{◌≡◌, ◌≢◌, ℕ, zero, suc, ◌+◌, ◌-◌, ◌<◌, ◌≤◌, List, [], ◌∷◌, ◌++◌, length, get_or, take, drop, set, Some, None, IsSome, refl, arith, eqb, true, false, sym, ap, ◌∙◌, subst, eq-eqb, inl, inr}
+use Rattle.std.proofs.Common.{◌≡◌, ◌≢◌, ℕ, suc, ◌+◌, ◌-◌, ◌<◌, ◌≤◌, List, [], ◌∷◌, length, take, Some, None, IsSome, refl, arith, eqb, true, false, sym, ap, ◌∙◌, subst, eq-eqb, inl, inr}
 use Rattle.std.proofs.lemmas.Bool.{ne_eqb}
 use Rattle.std.proofs.lemmas.Bool.Decides.{eqb_tells}
 use Rattle.std.proofs.lemmas.List.{length-take-le}
@@ -81,17 +81,6 @@ module _ (b : ℕ) (to : Child) where
     same_length = length-edges_with_child es;
     ascends = edges_with_child-Ascends es a;
   }
-
-  -- the first i of n edges, and then the others with one redirected
-  abbrev pub redone : ℕ → ℕ → List Edge → List Edge
-  redone i n es = take i es ++ edges_with_child (drop i (take n es)) b to
-
-  -- if edge i is at the byte, it is replaced, and the others are unchanged
-  pub redone-here : (es : List Edge) (i n : ℕ) (d : Edge) → i < n → n ≤ length es → (get_or es i d).byte ≡ b → redone i n es ≡ take n (set es i (record { byte = b; to = to }))
-  redone-here [] i n d l m h = absurd (omega arith)
-  redone-here (x ∷ es) i zero d l m h = absurd (omega arith)
-  redone-here (x ∷ es) zero (suc n) d l m h = let t : eqb x.byte b ≡ true = eq-eqb x.byte b h in rw t refl
-  redone-here (x ∷ es) (suc i) (suc n) d l m h = ap (λ (t : List Edge). x ∷ t) (redone-here es i n d (omega arith) (omega arith) h)
 
 module _ (n r : ℕ) (es fs : List Edge) (s : Sorted n r es) where
   -- n edges are in use

@@ -1,11 +1,11 @@
 -- Edges as a list of bytes and a list of children.
-use Rattle.std.proofs.Common.{◌≡◌, ◌≢◌, ℕ, zero, suc, ◌<◌, ◌≤◌, List, [], ◌∷◌, ◌++◌, cond, length, get_or, take, drop, set, Option, Some, None, eqb, false, refl, arith, sym, ap, ◌∙◌}
-use Rattle.art_kinds.specs.Edges.{paired, later, count_below}
+use Rattle.std.proofs.Common.{◌≡◌, ◌≢◌, ℕ, zero, suc, ◌<◌, List, [], ◌∷◌, ◌++◌, cond, length, get_or, take, drop, set, Option, Some, None, IsSome, false, refl, arith, sym, ap, ◌∙◌, inl, inr}
+use Rattle.art_kinds.specs.Edges.{child_at, Ascends, edges_with_child, paired, later, count_below}
 use Rattle.art_kinds.proofs.EdgeNexts.{laid}
-use Rattle.art_kinds.proofs.EdgeShifts.{edges_below}
+use Rattle.art_kinds.proofs.EdgeShifts.{AscendsAbove-absent, AscendsAbove-Ascends, edges_below}
 use Rattle.std.specs.Prelude.{ltb}
-use Rattle.art_kinds.proofs.EdgeFills.{redone}
-use Rattle.std.proofs.lemmas.Bool.{ne_eqb}
+use Rattle.std.proofs.lemmas.Bool.{le-ltb}
+use Rattle.std.proofs.lemmas.Bool.Decides.{eqb_tells, leb_tells}
 use Rattle.art_kinds.specs.declared.records.ids.Child.{Child}
 use Rattle.art_kinds.specs.declared.records.ids.Edge.{Edge}
 
@@ -46,20 +46,6 @@ pub laid-later : (x : Option Edge) (e : Edge) (f : Option Edge) → laid (Some (
 laid-later None e f = refl
 laid-later (Some y) e f = refl
 
--- another child at a place is another edge at that place
-pub set-child : (bs : List ℕ) (cs : List Child) (i : ℕ) (c : Child) → i < length bs → length cs ≡ length bs → paired bs (set cs i c) ≡ set (paired bs cs) i (edge (get_or bs i 0) c)
-set-child [] cs i c l m = absurd (omega arith)
-set-child (x ∷ bs) [] i c l m = absurd (omega arith)
-set-child (x ∷ bs) (y ∷ cs) zero c l m = refl
-set-child (x ∷ bs) (y ∷ cs) (suc i) c l m = ap (λ (t : List Edge). edge x y ∷ t) (set-child bs cs i c (omega arith) (omega arith))
-
--- an edge at another byte is unchanged
-pub redone-keep : (b : ℕ) (to : Child) (es : List Edge) (i n : ℕ) (d : Edge) → i < n → n ≤ length es → (get_or es i d).byte ≢ b → redone b to i n es ≡ redone b to (suc i) n es
-redone-keep b to [] i n d l m h = absurd (omega arith)
-redone-keep b to (x ∷ es) i zero d l m h = absurd (omega arith)
-redone-keep b to (x ∷ es) zero (suc n) d l m h = let t : eqb x.byte b ≡ false = ne_eqb x.byte b h in rw t refl
-redone-keep b to (x ∷ es) (suc i) (suc n) d l m h = ap (λ (t : List Edge). x ∷ t) (redone-keep b to es i n d (omega arith) (omega arith) h)
-
 -- there are as many bytes before a byte as edges
 pub below-paired : (bs : List ℕ) (cs : List Child) (b : ℕ) → length cs ≡ length bs → edges_below (paired bs cs) b ≡ count_below bs b
 below-paired [] cs b l = refl
@@ -87,3 +73,24 @@ paired-without (x ∷ bs) (y ∷ cs) (suc i) l = ap (λ (t : List Edge). edge x 
 -- if the first n bytes and children are equal, so are the first n edges
 pub take-both : (n : ℕ) (bs xs : List ℕ) (cs ys : List Child) → take n xs ≡ bs → take n ys ≡ cs → take n (paired xs ys) ≡ paired bs cs
 take-both n bs xs cs ys p q = sym (take-paired n xs ys) ∙ ap (λ (z : List ℕ). paired z (take n ys)) p ∙ ap (λ (z : List Child). paired bs z) q
+
+-- another child at the place of a byte redirects its edge, and the place is one of the first n
+pub redirected : (n : ℕ) (bs : List ℕ) (cs : List Child) (b : ℕ) (to : Child) → Ascends (take n (paired bs cs)) → IsSome (child_at (take n (paired bs cs)) b)
+    → (take n (paired bs (set cs (count_below (take n bs) b) to)) ≡ edges_with_child (take n (paired bs cs)) b to) × (count_below (take n bs) b < n)
+redirected zero bs cs b to a h = absurd (let f : IsSome {T = Child} None = h in cc)
+redirected (suc n) [] cs b to a h = absurd (let f : IsSome {T = Child} None = h in cc)
+redirected (suc n) (x ∷ bs) [] b to a h = absurd (let f : IsSome {T = Child} None = h in cc)
+redirected (suc n) (x ∷ bs) (y ∷ cs) b to a h =
+    let es = take n (paired bs cs) in
+    elim (eqb_tells x b) [
+      | inl p ↦ let e : x ≡ b = p.1 in let t : ltb x b ≡ false = le-ltb x b (omega arith) in rw (p.0, t) (ap (λ z. edge z to ∷ es) e, omega arith)
+      | inr p ↦
+          let off : x ≢ b = p.1 in
+          elim (leb_tells (suc x) b) [
+            | inl q ↦ let ih = redirected n bs cs b to (AscendsAbove-Ascends x es a) (rw p.0 at h) in let lt : count_below (take n bs) b < n = ih.1 in rw (p.0, q.0) (ap (λ (t : List Edge). edge x y ∷ t) ih.0, omega arith)
+            | inr q ↦
+                let le : b < suc x = q.1 in
+                let none : child_at es b ≡ None = AscendsAbove-absent x b es a (omega arith) in
+                absurd (let f : IsSome {T = Child} None = rw (p.0, none) at h in cc)
+          ]
+    ]

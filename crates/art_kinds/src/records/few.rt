@@ -1,6 +1,6 @@
 //! A node with few children: their bytes in ascending order, and the children beside them.
 ghost use Rattle.std.specs.Prelude.{◌≡◌, ◌+◌, ◌-◌, ◌<◌, ◌≤◌, [], ◌∷◌, length, take, Some, None, IsSome};
-ghost use Rattle.art_kinds.specs.Edges.{child_at, Ascends, IsNext, IsPrevious, IsEnd, count_below, edges_with, edges_without, edges_with_child, after, before, paired};
+ghost use Rattle.art_kinds.specs.Edges.{child_at, Ascends, IsNext, IsPrevious, IsEnd, count_below, edges_with, edges_without, after, before, paired};
 
 use crate::records::children::Children;
 use crate::records::ids::{Child, Edge};
@@ -142,13 +142,8 @@ impl<const N: usize> Children for Few<N> {
     }
 
     fn redirect(&mut self, byte: u8, to: Child) {
-        redirect_in(
-            &self.bytes,
-            &mut self.children,
-            self.count as usize,
-            byte,
-            Link::of(to),
-        );
+        let place = place_of(&self.bytes[..self.count as usize], byte);
+        self.children[place] = Link::of(to);
     }
 }
 
@@ -243,21 +238,6 @@ fn remove_in(bytes: &mut [u8], children: &mut [Link], count: usize, byte: u8)
     let place = place_of(&bytes[..count], byte);
     bytes.copy_within(place + 1..count, place);
     children.copy_within(place + 1..count, place);
-}
-
-/// Redirects the first edge at a byte, if there is one among the first `count` edges.
-fn redirect_in(bytes: &[u8], children: &mut [Link], count: usize, byte: u8, to: Link)
-    requires within { count ≤ length bytes.now }
-    requires same { length children.old ≡ length bytes.now }
-    ensures { take count (paired bytes.now children.new)
-        ≡ edges_with_child (take count (paired bytes.now children.old)) byte to }
-{
-    for i in 0..count {
-        if bytes[i] == byte {
-            children[i] = to;
-            return;
-        }
-    }
 }
 
 impl Few<4> {

@@ -1,10 +1,11 @@
-use Rattle.std.proofs.Common.{◌≡◌, ℕ, suc, ◌+◌, ◌-◌, ◌<◌, ◌≤◌, ◌++◌, List, IsSome, length, take, drop, ap, ◌∙◌, sym, arith}
+use Rattle.std.proofs.Common.{◌≡◌, ℕ, suc, ◌+◌, ◌-◌, ◌<◌, ◌++◌, List, IsSome, length, take, drop, ap, ◌∙◌, sym, arith}
 use Rattle.std.proofs.lemmas.List.{length-take-le}
 use Rattle.art_kinds.specs.Edges.{child_at, Ascends, count_below, paired}
 use Rattle.art_kinds.specs.declared.records.ids.Child.{Child}
+use Rattle.art_kinds.specs.declared.records.ids.Child.TheVariants.{Leaf}
 use Rattle.art_kinds.specs.declared.records.ids.Edge.{Edge}
 use Rattle.art_kinds.proofs.EdgeShifts.{edges_below, edges_without-place, close_among}
-use Rattle.art_kinds.proofs.Pairs.{length-paired, take-both, take-paired, below-paired, paired-without}
+use Rattle.art_kinds.proofs.Pairs.{take-both, take-paired, below-paired, paired-without, redirected}
 use Rattle.art_kinds.proofs.records.few.remove_in.Goals as goal
 
 -- how many edges are before the byte, counted by the bytes
@@ -12,27 +13,19 @@ place_is : (bs : List ℕ) (cs : List Child) (n b : ℕ) → length (take n cs) 
 place_is bs cs n b same = sym (below-paired (take n bs) (take n cs) b same) ∙ ap (λ (t : List Edge). edges_below t b) (take-paired n bs cs)
 
 -- a byte that has an edge has its place among them
-place_within : (bs : List ℕ) (cs : List Child) (n b : ℕ) → n ≤ length bs → length cs ≡ length bs → Ascends (take n (paired bs cs)) → IsSome (child_at (take n (paired bs cs)) b) → count_below (take n bs) b < n
-place_within bs cs n b le same ascends there =
-    let lb : length (take n bs) ≡ n = length-take-le n bs le in
-    let lc : length (take n cs) ≡ n = length-take-le n cs (omega arith) in
-    let lp : length (paired bs cs) ≡ length bs = length-paired bs cs same in
-    let l : length (take n (paired bs cs)) ≡ n = length-take-le n (paired bs cs) (omega arith) in
-    let p : count_below (take n bs) b ≡ edges_below (take n (paired bs cs)) b = place_is bs cs n b (omega arith) in
-    let r = edges_without-place (take n (paired bs cs)) b ascends there in
-    let lt : edges_below (take n (paired bs cs)) b < length (take n (paired bs cs)) = r.1 in
-    omega arith
+place_within : (bs : List ℕ) (cs : List Child) (n b : ℕ) → Ascends (take n (paired bs cs)) → IsSome (child_at (take n (paired bs cs)) b) → count_below (take n bs) b < n
+place_within bs cs n b ascends there = (redirected n bs cs b (Leaf 0) ascends there).1
 
 pub copy_within-requires-clause-start_le_end : goal.copy_within-requires-clause-start_le_end
 copy_within-requires-clause-start_le_end c =
     let e : c.place_of-place.result ≡ count_below (take c.args.count c.args.bytes.now) c.args.byte = c.place_of-place.ensures.count in
-    let lt : count_below (take c.args.count c.args.bytes.now) c.args.byte < c.args.count = place_within c.args.bytes.now c.args.children.now c.args.count c.args.byte c.requires.within c.requires.same c.requires.ascends c.requires.there in
+    let lt : count_below (take c.args.count c.args.bytes.now) c.args.byte < c.args.count = place_within c.args.bytes.now c.args.children.now c.args.count c.args.byte c.requires.ascends c.requires.there in
     omega arith
 
 pub copy_within-requires-2-clause-start_le_end : goal.copy_within-requires-2-clause-start_le_end
 copy_within-requires-2-clause-start_le_end c =
     let e : c.place_of-place.result ≡ count_below (take c.args.count c.args.bytes.now) c.args.byte = c.place_of-place.ensures.count in
-    let lt : count_below (take c.args.count c.args.bytes.now) c.args.byte < c.args.count = place_within c.args.bytes.now c.args.children.now c.args.count c.args.byte c.requires.within c.requires.same c.requires.ascends c.requires.there in
+    let lt : count_below (take c.args.count c.args.bytes.now) c.args.byte < c.args.count = place_within c.args.bytes.now c.args.children.now c.args.count c.args.byte c.requires.ascends c.requires.there in
     omega arith
 
 pub returns : goal.returns
@@ -48,7 +41,7 @@ returns c =
     let same : length (take n cs) ≡ length (take n bs) = omega arith in
     let r = edges_without-place es b c.requires.ascends c.requires.there in
     let e : i ≡ count_below (take n bs) b = c.place_of-place.ensures.count in
-    let lt : count_below (take n bs) b < n = place_within bs cs n b c.requires.within c.requires.same c.requires.ascends c.requires.there in
+    let lt : count_below (take n bs) b < n = place_within bs cs n b c.requires.ascends c.requires.there in
     let at : i ≡ edges_below es b = e ∙ place_is bs cs n b same in
     let one : i + 1 ≡ suc i = omega arith in
     let p = ap (λ (t : List ℕ). take (n - 1) t) c.copy_within.ensures.after ∙ close_among bs i n (omega arith) c.requires.within ∙ ap (λ (k : ℕ). take i (take n bs) ++ drop k (take n bs)) one in
