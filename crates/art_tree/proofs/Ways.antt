@@ -6,8 +6,8 @@ pub mod Related
 pub mod Roots
 pub mod Shown
 pub mod Stops
+pub mod ToFork
 pub mod ToFront
 pub mod ToQuery
-pub mod ToSpot
 pub mod Tops
 pub mod WaysDown

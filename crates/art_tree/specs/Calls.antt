@@ -1,8 +1,8 @@
 pub mod Building
 pub mod Descents
+pub mod Forks
 pub mod Placing
 pub mod Pruning
 pub mod Removing
 pub mod Seeking
-pub mod Spots
 pub mod Stops

@@ -4,7 +4,7 @@
 use crate::pair_list::Pairs;
 use crate::tree::Tree;
 use crate::tree::build::Frame;
-use crate::tree::descent::Spot;
+use crate::tree::descent::Fork;
 use crate::tree::point::{Beside, Place, Point};
 use crate::tree::skeleton::Skeleton;
 use crate::walk::Walk;
@@ -108,14 +108,14 @@ fn place_of(rt: &impl Abort, tree: &Bare, query: &[u8]) -> Place {
     }
 }
 
-/// Asserts that the place of some bytes, which leave the keys at a node, names a leaf, the node,
-/// and one byte of a key.
+/// Asserts that the place of some bytes, which part from the keys at a node, names a leaf, the
+/// node, and one byte of a key.
 fn assert_places(rt: &impl Abort, tree: &Bare, numbers: &Numbers) {
     let Place {
         nearest,
         depth,
         beside,
-        spot,
+        fork,
         byte,
     } = place_of(rt, tree, &[100, 100, 101]);
     assert!(rt; depth == 2 && nearest.number() == numbers[0] && byte == byte_of(0));
@@ -123,9 +123,9 @@ fn assert_places(rt: &impl Abort, tree: &Bare, numbers: &Numbers) {
         Beside::AfterLeaf(id) => assert!(rt; id.number() == numbers[0]),
         Beside::BeforeLeaf(_) => panic!(rt; "the place is after the leaf"),
     }
-    match spot {
-        Spot::Node(above, _) => assert!(rt; above.is_some()),
-        Spot::Edge(_, _) => panic!(rt; "the bytes leave the keys at a node"),
+    match fork {
+        Fork::Node(above, _) => assert!(rt; above.is_some()),
+        Fork::Edge(_, _) => panic!(rt; "the bytes part from the keys at a node"),
     }
 }
 

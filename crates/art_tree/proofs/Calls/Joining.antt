@@ -6,12 +6,12 @@ use Rattle.std.proofs.lemmas.List.{length-take-le}
 use Rattle.art_tree.specs.Invariant.EdgesAbove.{LeadsTo, TurnsTo, edge_front}
 use Rattle.art_tree.specs.Begins.{Bytes, Begins, next_byte}
 use Rattle.art_tree.specs.Places.{LeavesNearest}
-use Rattle.art_tree.specs.Calls.Placing.{Forks, DepthWithin, KeepsFrom}
+use Rattle.art_tree.specs.Calls.Placing.{MakesNodeOfTwo, DepthWithin, KeepsFrom}
 use Rattle.art_tree.specs.Calls.Removing.{StartsBelow, EndsBelow, Cuts, CutsAfter}
 use Rattle.art_kinds.specs.Edges.{child_at}
 use Rattle.art_kinds.specs.Nodes.{Node, Nodes, at, places, HasPlace, Renames}
 use Rattle.art_tree.specs.Invariant.Shape.{Shape, CoversNode}
-use Rattle.art_tree.specs.Calls.Spots.{PastLength, EdgeFits}
+use Rattle.art_tree.specs.Calls.Forks.{PastLength, EdgeFits}
 use Rattle.art_kinds.specs.declared.records.ids.Child.{Child}
 use Rattle.art_kinds.specs.declared.records.ids.Child.TheVariants.{Leaf, Inner}
 use Rattle.art_kinds.specs.declared.records.ids.Edge.{Edge}
@@ -113,12 +113,12 @@ module _ (keys : ℕ → Option Bytes) (leaf depth : ℕ) (q : Bytes) (good : Le
           (v.only leaf m m_is (Begins-trans (edge_front s.front_of above) (take depth m) m fits.along (Begins-take depth m)), w, omega arith)) cuts
 
       -- once the node that splits the edge is made, the edge still leads to the child
-      pub leads_forked : (mid : ℕ → Option Node) (n : ℕ) (prefix : List ℕ) (one other : Edge) → Forks cut mid n depth prefix one other → LeadsTo mid root above c
-      leads_forked mid n prefix one other f = leads_made cut mid root above c n depth prefix f.low f.high (cut_leads P nodes cut s.front_of (take depth m ++ get_or m depth 0 ∷ []) c cut_child root above c fits.leads) f.made
+      pub leads_new : (mid : ℕ → Option Node) (n : ℕ) (prefix : List ℕ) (one other : Edge) → MakesNodeOfTwo cut mid n depth prefix one other → LeadsTo mid root above c
+      leads_new mid n prefix one other f = leads_made cut mid root above c n depth prefix f.low f.high (cut_leads P nodes cut s.front_of (take depth m ++ get_or m depth 0 ∷ []) c cut_child root above c fits.leads) f.made
 
       -- the leaf at an edge, under a new node
       pub edge_gains : (keys' : ℕ → Option Bytes) (i : ℕ) (mid new : ℕ → Option Node) (root' : Option Child) (n start : ℕ) → Gains keys keys' i q → StartsBelow nodes above start
-          → Forks cut mid n depth (take P (slice_range q start depth)) (record { byte = get_or q depth 0; to = Leaf i }) (record { byte = get_or m depth 0; to = c }) → TurnsTo mid new root root' above (Inner n) → Shape P keys' new root'
+          → MakesNodeOfTwo cut mid n depth (take P (slice_range q start depth)) (record { byte = get_or q depth 0; to = Leaf i }) (record { byte = get_or m depth 0; to = c }) → TurnsTo mid new root root' above (Inner n) → Shape P keys' new root'
       edge_gains keys' i mid new root' n start gains starts f turns =
           let long : depth < length q = good.longer in
           let deep : length (take depth q) ≡ depth = length-take-le depth q (omega arith) in

@@ -1,4 +1,4 @@
--- A leaf is placed at the spot at which its key leaves the nearest one.
+-- A leaf is placed at the fork at which its key parts from the nearest one.
 use Rattle.std.proofs.Common.{◌≡◌, ◌≢◌, ℕ, ◌<◌, List, [], ◌∷◌, ◌++◌, length, take, drop, get_or, refl, ap, arith, sym, subst, Option, Some, ◌∙◌, eqb, eq-eqb, true}
 use Rattle.std.proofs.lemmas.List.{length-take-le}
 use Rattle.art_tree.specs.Invariant.EdgesAbove.{LeadsTo, TurnsTo, edge_front}
@@ -7,7 +7,7 @@ use Rattle.art_tree.specs.Places.{LeavesNearest}
 use Rattle.art_kinds.specs.Nodes.{Node, Makes, Renames, AddsEdgeTo}
 use Rattle.art_tree.specs.Calls.Removing.{CutsAfter}
 use Rattle.art_tree.specs.Invariant.Shape.{Shape}
-use Rattle.art_tree.specs.Calls.Spots.{PastLength, EdgeFits}
+use Rattle.art_tree.specs.Calls.Forks.{PastLength, EdgeFits}
 use Rattle.art_kinds.specs.declared.records.ids.Child.{Child}
 use Rattle.art_kinds.specs.declared.records.ids.Child.TheVariants.{Leaf, Inner}
 use Rattle.art_kinds.specs.declared.records.ids.Edge.{Edge}

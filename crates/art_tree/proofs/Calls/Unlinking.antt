@@ -91,14 +91,14 @@ leaf_at_node key_bytes pairs nodes root s i has n b low above leads =
 -- ---- the prefixes of a node and of its child, joined
 
 -- the first P bytes of the joined prefixes need only the first P bytes of each
-take_join : (P m : ℕ) (A r : Bytes) (b : ℕ) → P ≤ m → take P (take P A ++ b ∷ take m r) ≡ take P (A ++ b ∷ r)
-take_join zero m A r b le = refl
-take_join (suc P) m [] r b le = ap (λ (t : Bytes). b ∷ t) (take-take P m r (omega arith))
-take_join (suc P) m (a ∷ A) r b le = ap (λ (t : Bytes). a ∷ t) (take_join P m A r b (omega arith))
+take_prepended : (P m : ℕ) (A r : Bytes) (b : ℕ) → P ≤ m → take P (take P A ++ b ∷ take m r) ≡ take P (A ++ b ∷ r)
+take_prepended zero m A r b le = refl
+take_prepended (suc P) m [] r b le = ap (λ (t : Bytes). b ∷ t) (take-take P m r (omega arith))
+take_prepended (suc P) m (a ∷ A) r b le = ap (λ (t : Bytes). a ∷ t) (take_prepended P m A r b (omega arith))
 
 -- the bytes of a longer front after g, if a front between them begins with g and continues with b
-drop_join : (g f l : Bytes) (b : ℕ) → Begins g f → Begins (f ++ b ∷ []) l → drop (length g) l ≡ drop (length g) f ++ b ∷ drop (length (f ++ b ∷ [])) l
-drop_join g f l b gf fl =
+drop_prepended : (g f l : Bytes) (b : ℕ) → Begins g f → Begins (f ++ b ∷ []) l → drop (length g) l ≡ drop (length g) f ++ b ∷ drop (length (f ++ b ∷ [])) l
+drop_prepended g f l b gf fl =
     let r : Bytes = drop (length (f ++ b ∷ [])) l in
     let whole : l ≡ f ++ b ∷ drop (length (f ++ b ∷ [])) l = sym (take-append-drop (length (f ++ b ∷ [])) l) ∙ ap (λ (t : Bytes). t ++ drop (length (f ++ b ∷ [])) l) (take_front (f ++ b ∷ []) l fl) ∙ append_assoc f (b ∷ []) (drop (length (f ++ b ∷ [])) l) in
     ap (λ (t : Bytes). drop (length g) t) whole ∙ drop-append-le (length g) f (b ∷ drop (length (f ++ b ∷ [])) l) (Begins-length g f gf)
@@ -114,5 +114,5 @@ join_is {P} keys nodes above n m b h y is =
     let a : Begins g (f n) = (covers_above keys nodes h.root h.shape above (Inner n) h.leads).front in
     let c : Begins (f n ++ b ∷ []) (f m) = ((h.shape.node n h.node h.is).below b (Inner m) h.there).front in
     ap (λ (t : Bytes). take P (t ++ b ∷ y.prefix)) up ∙ ap (λ (t : Bytes). take P (take P (drop (length g) (f n)) ++ b ∷ t)) low
-    ∙ take_join P P (drop (length g) (f n)) (drop (length (f n ++ b ∷ [])) (f m)) b (omega arith)
-    ∙ ap (λ (t : Bytes). take P t) (sym (drop_join g (f n) (f m) b a c))
+    ∙ take_prepended P P (drop (length g) (f n)) (drop (length (f n ++ b ∷ [])) (f m)) b (omega arith)
+    ∙ ap (λ (t : Bytes). take P t) (sym (drop_prepended g (f n) (f m) b a c))

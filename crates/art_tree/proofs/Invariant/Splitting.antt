@@ -5,7 +5,7 @@ use Rattle.std.proofs.lemmas.Bool.Decides.{eqb_tells}
 use Rattle.art_tree.specs.Begins.{Bytes, Begins, next_byte}
 use Rattle.blart_keys.specs.Bytes.{common}
 use Rattle.art_tree.specs.Invariant.EdgesAbove.{LeadsTo, TurnsTo, edge_front}
-use Rattle.art_tree.specs.Calls.Spots.{PastLength}
+use Rattle.art_tree.specs.Calls.Forks.{PastLength}
 use Rattle.art_kinds.specs.Nodes.{Node, Makes}
 use Rattle.art_kinds.specs.Edges.{child_at, Ascends}
 use Rattle.art_tree.specs.Calls.Removing.{CutsAfter}

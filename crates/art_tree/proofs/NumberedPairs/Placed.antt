@@ -5,14 +5,14 @@ use Rattle.blart_keys.specs.Bytes.{related}
 use Rattle.blart_keys.specs.Content.{IsContent}
 use Rattle.art_tree.specs.Begins.{Bytes}
 use Rattle.art_tree.specs.Places.{LeavesNearest, IsLeafBefore, IsBeside, neighbour, number_before_place}
-use Rattle.art_tree.specs.Calls.Placing.{IsSpotFor, HasNearest, IsShown, IsShownIn, IsToJoin, TreeGains, PutsPair}
+use Rattle.art_tree.specs.Calls.Placing.{IsForkFor, HasNearest, IsShown, IsShownIn, IsToJoin, TreeGains, PutsPair}
 use Rattle.art_tree.specs.Leaves.{Leaves, Numbered, leaf_in, Has, AreDistinct, with_pair_after, bytes, keys_in}
 use Rattle.art_kinds.specs.Nodes.{Nodes, Node, at}
 use Rattle.art_tree.specs.Points.{IsFree}
 use Rattle.art_tree.specs.Invariant.Shape.{Shape}
-use Rattle.art_tree.specs.Calls.Spots.{SpotFits}
+use Rattle.art_tree.specs.Calls.Forks.{ForkFits}
 use Rattle.art_tree.specs.Invariant.Sound.{IsSound}
-use Rattle.art_tree.specs.declared.tree.descent.Spot.{Spot}
+use Rattle.art_tree.specs.declared.tree.descent.Fork.{Fork}
 use Rattle.art_tree.specs.declared.tree.point.Beside.{Beside}
 use Rattle.art_tree.specs.declared.tree.point.Beside.TheVariants.{AfterLeaf, BeforeLeaf}
 use Rattle.art_tree.specs.declared.tree.point.Place.{Place}
@@ -37,10 +37,10 @@ no_root keys nodes (Some c) s none =
     let b : keys k.0 ≡ None = none k.0 in
     absurd cc
 
--- a spot that is right for all keys is right for these
-pub shown_rest : (P : ℕ) (nodes : ℕ → Option Node) (root : Option Child) (place : Place) (keys : ℕ → Option Bytes) (shown : Option Spot) → IfSome shown (IsShown P nodes root place) → IfSome shown (IsShownIn P keys nodes root place.nearest place.depth)
+-- a fork that is right for all keys is right for these
+pub shown_rest : (P : ℕ) (nodes : ℕ → Option Node) (root : Option Child) (place : Place) (keys : ℕ → Option Bytes) (shown : Option Fork) → IfSome shown (IsShown P nodes root place) → IfSome shown (IsShownIn P keys nodes root place.nearest place.depth)
 shown_rest P nodes root place keys None h = tt
-shown_rest P nodes root place keys (Some spot) h = h keys
+shown_rest P nodes root place keys (Some fork) h = h keys
 
 module _ {K V : Type 0} (key_bytes : K → Bytes) where
   -- the leaf before a place is a leaf of the pairs
@@ -100,7 +100,7 @@ module _ {K V : Type 0} (key_bytes : K → Bytes) where
   has_beside pairs q (BeforeLeaf i) st = has_key key_bytes pairs i st.key st.is
 
   -- the new leaf is to be added to the tree
-  pub joins : {P : ℕ} → (leaves : Leaves K V) (nodes : Nodes) (root : Option Child) (new : List (Numbered K V)) (nearest depth : ℕ) (shown : Option Spot) (i : ℕ) (x : K × V) → IsSound key_bytes P leaves nodes root → LeavesNearest (keys_in key_bytes leaves.pairs) nearest depth (key_bytes x.0)
+  pub joins : {P : ℕ} → (leaves : Leaves K V) (nodes : Nodes) (root : Option Child) (new : List (Numbered K V)) (nearest depth : ℕ) (shown : Option Fork) (i : ℕ) (x : K × V) → IsSound key_bytes P leaves nodes root → LeavesNearest (keys_in key_bytes leaves.pairs) nearest depth (key_bytes x.0)
       → IfSome shown (IsShownIn P (keys_in key_bytes leaves.pairs) (at nodes) root nearest depth) → PutsPair key_bytes leaves.pairs new i x → IsToJoin P (keys_in key_bytes new) (at nodes) root nearest depth shown i
   joins leaves nodes root new nearest depth shown i x sound good known p = record {
     rest = keys_in key_bytes leaves.pairs;
@@ -111,7 +111,7 @@ module _ {K V : Type 0} (key_bytes : K → Bytes) where
     known = known;
   }
 
-module _ {P : ℕ} {keys : ℕ → Option Bytes} {nodes : ℕ → Option Node} {root : Option Child} {nearest depth : ℕ} {shown : Option Spot} {i : ℕ} (new : IsToJoin P keys nodes root nearest depth shown i) where
+module _ {P : ℕ} {keys : ℕ → Option Bytes} {nodes : ℕ → Option Node} {root : Option Child} {nearest depth : ℕ} {shown : Option Fork} {i : ℕ} (new : IsToJoin P keys nodes root nearest depth shown i) where
   -- the nearest leaf is not the new one
   another : nearest ≢ i
   another e = let a : new.rest i ≡ Some new.leaves.nearest_key = ap new.rest (sym e) ∙ new.leaves.nearest_is in let b : new.rest i ≡ None = new.gains.fresh in let z : None ≡ Some new.leaves.nearest_key = sym b ∙ a in cc
@@ -120,11 +120,11 @@ module _ {P : ℕ} {keys : ℕ → Option Bytes} {nodes : ℕ → Option Node} {
   pub has_nearest : keys nearest ≡ Some new.leaves.nearest_key
   has_nearest = new.gains.others nearest another ∙ new.leaves.nearest_is
 
-  -- if its spot is known, it is right
-  pub known_fits : (spot : Spot) → shown ≡ Some spot → SpotFits nodes root new.shape.front_of new.leaves.nearest_key depth spot
-  known_fits spot e =
+  -- if its fork is known, it is right
+  pub known_fits : (fork : Fork) → shown ≡ Some fork → ForkFits nodes root new.shape.front_of new.leaves.nearest_key depth fork
+  known_fits fork e =
       let long : depth < length new.leaves.nearest_key = new.leaves.nearest_longer in
-      subst (λ (o : Option Spot). IfSome o (IsShownIn P new.rest nodes root nearest depth)) e new.known new.shape new.leaves.nearest_key new.leaves.nearest_is (omega arith)
+      subst (λ (o : Option Fork). IfSome o (IsShownIn P new.rest nodes root nearest depth)) e new.known new.shape new.leaves.nearest_key new.leaves.nearest_is (omega arith)
 
   module _ {k m : Bytes} (own : keys i ≡ Some k) (near : keys nearest ≡ Some m) where
     own_key : new.key ≡ k
@@ -138,17 +138,17 @@ module _ {P : ℕ} {keys : ℕ → Option Bytes} {nodes : ℕ → Option Node} {
     pub leaves_near : LeavesNearest new.rest nearest depth k
     leaves_near = subst (λ (k : Bytes). LeavesNearest new.rest nearest depth k) own_key new.leaves
 
-    module _ (spot : Spot) (fits : SpotFits nodes root new.shape.front_of m depth spot) where
-      -- the spot that was found is right
-      pub new_spot : IsSpotFor P nodes root spot k m depth
-      new_spot = record { keys = new.rest; shape = new.shape; leaf = nearest; is = near_rest; leaves = leaves_near; fits = fits }
+    module _ (fork : Fork) (fits : ForkFits nodes root new.shape.front_of m depth fork) where
+      -- the fork that was found is right
+      pub new_fork : IsForkFor P nodes root fork k m depth
+      new_fork = record { keys = new.rest; shape = new.shape; leaf = nearest; is = near_rest; leaves = leaves_near; fits = fits }
 
       -- and once the leaf is added there, the tree has the key
-      pub new_shape : (nodes' : ℕ → Option Node) (root' : Option Child) → TreeGains P nodes nodes' root root' spot k m depth i → Shape P keys nodes' root'
+      pub new_shape : (nodes' : ℕ → Option Node) (root' : Option Child) → TreeGains P nodes nodes' root root' fork k m depth i → Shape P keys nodes' root'
       new_shape nodes' root' joined = joined new.rest keys new.shape nearest near_rest leaves_near fits (subst (λ (k : Bytes). Gains new.rest keys i k) own_key new.gains)
 
--- the spot can be found by the nearest key
-abbrev pub to_nearest : {P : ℕ} {keys : ℕ → Option Bytes} {nodes : ℕ → Option Node} {root : Option Child} (place : Place) {shown : Option Spot} {i : ℕ} (new : IsToJoin P keys nodes root place.nearest place.depth shown i) {k m : Bytes} → keys i ≡ Some k → keys place.nearest ≡ Some m → HasNearest P nodes root place shown m
+-- the fork can be found by the nearest key
+abbrev pub to_nearest : {P : ℕ} {keys : ℕ → Option Bytes} {nodes : ℕ → Option Node} {root : Option Child} (place : Place) {shown : Option Fork} {i : ℕ} (new : IsToJoin P keys nodes root place.nearest place.depth shown i) {k m : Bytes} → keys i ≡ Some k → keys place.nearest ≡ Some m → HasNearest P nodes root place shown m
 to_nearest place new {k} {m} own near =
     let is = near_rest new own near in
     let long : place.depth < length m = nearest_long new.rest place.nearest place.depth k (leaves_near new own near) m is in

@@ -1,4 +1,4 @@
--- A spot that is known without a descent.
+-- A fork that is known without a descent.
 use Rattle.std.proofs.Common.{◌≡◌, ℕ, Bool, true, false, List, ◌+◌, ◌<◌, ◌≤◌, [], ◌∷◌, ◌++◌, length, take, ap, sym, subst, ◌∙◌, Option, Some, None, arith, length-append}
 use Rattle.std.proofs.lemmas.List.{length-take-le}
 use Rattle.std.specs.Prelude.{not}
@@ -10,7 +10,7 @@ use Rattle.art_tree.specs.Invariant.EdgesAbove.{LeadsTo, edge_front}
 use Rattle.art_tree.specs.Invariant.Shape.{Shape, Covers, CoversLeaf, CoversNode}
 use Rattle.art_tree.specs.Calls.Placing.{IsOverLeaf}
 use Rattle.art_tree.specs.Calls.Removing.{EndsBelow, StartsBelow}
-use Rattle.art_tree.specs.Calls.Spots.{SpotFits, PastLength}
+use Rattle.art_tree.specs.Calls.Forks.{ForkFits, PastLength}
 use Rattle.art_tree.specs.Calls.Stops.{PastDepth, StopsAt, IsStopBelow}
 use Rattle.art_tree.specs.declared.tree.stop.Stop.{Stop}
 use Rattle.art_tree.specs.declared.tree.stop.Stop.TheVariants as stop
@@ -18,8 +18,8 @@ use Rattle.art_kinds.specs.Nodes.{Node}
 use Rattle.art_kinds.specs.declared.records.ids.Child.{Child}
 use Rattle.art_kinds.specs.declared.records.ids.Child.TheVariants.{Leaf, Inner}
 use Rattle.art_kinds.specs.declared.records.ids.Edge.{Edge}
-use Rattle.art_tree.specs.declared.tree.descent.Spot.{Spot}
-use Rattle.art_tree.specs.declared.tree.descent.Spot.TheVariants as spot
+use Rattle.art_tree.specs.declared.tree.descent.Fork.{Fork}
+use Rattle.art_tree.specs.declared.tree.descent.Fork.TheVariants as fork
 use Rattle.art_tree.specs.declared.tree.point.Place.{Place}
 use Rattle.art_tree.proofs.BeginsLemmas.{Begins-edge_front, Begins-linear, Begins-take, take_front}
 use Rattle.art_tree.proofs.Invariant.Growing.{covers_above}
@@ -39,7 +39,7 @@ front_within {nodes = nodes} s {depth = depth} c (Some a) l e =
 
 module _ {P : ℕ} (keys : ℕ → Option Bytes) (nodes : ℕ → Option Node) (root : Option Child) (s : Shape P keys nodes root) (leaf depth : ℕ) (nearest : Bytes) (is : keys leaf ≡ Some nearest) (above : Option (ℕ × ℕ)) where
   -- an edge that does not begin too deep, and leads past the depth
-  pub shown_past : (c : Child) → depth ≤ length nearest → LeadsTo nodes root above c → EndsBelow nodes above depth → Begins (edge_front s.front_of above) nearest → PastDepth nodes depth c → SpotFits nodes root s.front_of nearest depth (spot.Edge above c)
+  pub shown_past : (c : Child) → depth ≤ length nearest → LeadsTo nodes root above c → EndsBelow nodes above depth → Begins (edge_front s.front_of above) nearest → PastDepth nodes depth c → ForkFits nodes root s.front_of nearest depth (fork.Edge above c)
   shown_past c long leads ends front past =
       let w : length (edge_front s.front_of above) ≤ depth = front_within s c above leads ends in
       let l : length (take depth nearest) ≡ depth = length-take-le depth nearest long in
@@ -50,7 +50,7 @@ module _ {P : ℕ} (keys : ℕ → Option Bytes) (nodes : ℕ → Option Node) (
       go (Inner m) p = let d : p.0.depth ≡ length (s.front_of m) = (s.node m p.0 p.1).depth in let l : depth < p.0.depth = p.2 in omega arith
 
   -- an edge that leads to the nearest leaf and does not begin too deep
-  pub shown_edge : depth ≤ length nearest → LeadsTo nodes root above (Leaf leaf) → EndsBelow nodes above depth → SpotFits nodes root s.front_of nearest depth (spot.Edge above (Leaf leaf))
+  pub shown_edge : depth ≤ length nearest → LeadsTo nodes root above (Leaf leaf) → EndsBelow nodes above depth → ForkFits nodes root s.front_of nearest depth (fork.Edge above (Leaf leaf))
   shown_edge long leads ends =
       let c : CoversLeaf keys (edge_front s.front_of above) leaf = covers_above keys nodes root s above (Leaf leaf) leads in
       let own : keys leaf ≡ Some c.key = c.is in
@@ -59,7 +59,7 @@ module _ {P : ℕ} (keys : ℕ → Option Bytes) (nodes : ℕ → Option Node) (
       shown_past (Leaf leaf) long leads ends front tt
 
   -- a node of this depth whose front is a prefix of the nearest key
-  pub shown_front : (n : ℕ) (x : Node) → nodes n ≡ Some x → x.depth ≡ depth → LeadsTo nodes root above (Inner n) → Begins (s.front_of n) nearest → SpotFits nodes root s.front_of nearest depth (spot.Node above n)
+  pub shown_front : (n : ℕ) (x : Node) → nodes n ≡ Some x → x.depth ≡ depth → LeadsTo nodes root above (Inner n) → Begins (s.front_of n) nearest → ForkFits nodes root s.front_of nearest depth (fork.Node above n)
   shown_front n x is e leads front =
       let d : x.depth ≡ length (s.front_of n) = (s.node n x is).depth in
       let long : length (s.front_of n) ≡ depth = sym d ∙ e in
@@ -68,7 +68,7 @@ module _ {P : ℕ} (keys : ℕ → Option Bytes) (nodes : ℕ → Option Node) (
       (record { leads = leads; along = subst (λ (z : Bytes). Begins (edge_front s.front_of above) z) stands v.front }, stands)
 
   -- a node of this depth with the nearest leaf at one of its edges
-  pub shown_node : (n byte : ℕ) → LeadsTo nodes root above (Inner n) → IsOverLeaf nodes n depth byte leaf → SpotFits nodes root s.front_of nearest depth (spot.Node above n)
+  pub shown_node : (n byte : ℕ) → LeadsTo nodes root above (Inner n) → IsOverLeaf nodes n depth byte leaf → ForkFits nodes root s.front_of nearest depth (fork.Node above n)
   shown_node n byte leads o =
       let x : Node = o.node in
       let c : CoversLeaf keys (s.front_of n ++ byte ∷ []) leaf = (s.node n x o.is).below byte (Leaf leaf) o.there in
@@ -99,28 +99,28 @@ next_there : (is_after : Bool) (es : List Edge) (b : ℕ) (e : Edge) → IsNextT
 next_there true es b e n = n.1
 next_there false es b e n = n.1
 
--- the spot of a place that was found by a descent is right
+-- the fork of a place that was found by a descent is right
 module _ {P : ℕ} (keys : ℕ → Option Bytes) (nodes : ℕ → Option Node) (root : Option Child) (s : Shape P keys nodes root) (place : Place) (key : Bytes) (is : keys place.nearest ≡ Some key) (above : Option (ℕ × ℕ)) (depth : ℕ) (deep : place.depth ≡ depth) where
   under : (g : Bytes) → (is_first : Bool) → IsEndUnder keys is_first g place.nearest → Begins g key
   under g is_first u = let own : keys place.nearest ≡ Some u.key = u.is in let same : u.key ≡ key = cc in subst (λ (z : Bytes). Begins g z) same u.front
 
   -- at a node
-  pub shown_at_node : (n : ℕ) → place.spot ≡ spot.Node above n → LeadsTo nodes root above (Inner n) → (x : Node) → nodes n ≡ Some x → (b : ℕ) (q : Bytes) (l : LeavesAtNode P keys nodes n b q) → depth ≡ length (l.apart.shape.front_of n)
-      → (is_after : Bool) (e : Edge) → IsNextTo is_after x.edges b e → ((g : Bytes) → Covers keys nodes s.front_of g e.to → IsEndUnder keys (not is_after) g place.nearest) → SpotFits nodes root s.front_of key place.depth place.spot
-  shown_at_node n spot_is leads x x_is b q l d is_after e next end =
+  pub shown_at_node : (n : ℕ) → place.fork ≡ fork.Node above n → LeadsTo nodes root above (Inner n) → (x : Node) → nodes n ≡ Some x → (b : ℕ) (q : Bytes) (l : LeavesAtNode P keys nodes n b q) → depth ≡ length (l.apart.shape.front_of n)
+      → (is_after : Bool) (e : Edge) → IsNextTo is_after x.edges b e → ((g : Bytes) → Covers keys nodes s.front_of g e.to → IsEndUnder keys (not is_after) g place.nearest) → ForkFits nodes root s.front_of key place.depth place.fork
+  shown_at_node n fork_is leads x x_is b q l d is_after e next end =
       let covers = (s.node n x x_is).below e.byte e.to (next_there is_after x.edges b e next) in
       let own : x.depth ≡ length (l.apart.shape.front_of n) = (l.apart.shape.node n x x_is).depth in
       let front : Begins (s.front_of n) key = Begins-edge_front (s.front_of n) key e.byte (under (s.front_of n ++ e.byte ∷ []) (not is_after) (end (s.front_of n ++ e.byte ∷ []) covers)) in
-      subst (λ (z : Spot). SpotFits nodes root s.front_of key place.depth z) (sym spot_is)
+      subst (λ (z : Fork). ForkFits nodes root s.front_of key place.depth z) (sym fork_is)
       (shown_front keys nodes root s place.nearest place.depth key is above n x x_is (own ∙ sym d ∙ sym deep) leads front)
 
   -- at an edge
-  pub shown_at_edge : place.depth ≤ length key → (c : Child) → place.spot ≡ spot.Edge above c → LeadsTo nodes root above c → EndsBelow nodes above depth → PastDepth nodes depth c
-      → (is_first : Bool) → ((g : Bytes) → Covers keys nodes s.front_of g c → IsEndUnder keys is_first g place.nearest) → SpotFits nodes root s.front_of key place.depth place.spot
-  shown_at_edge long c spot_is leads ends past is_first end =
+  pub shown_at_edge : place.depth ≤ length key → (c : Child) → place.fork ≡ fork.Edge above c → LeadsTo nodes root above c → EndsBelow nodes above depth → PastDepth nodes depth c
+      → (is_first : Bool) → ((g : Bytes) → Covers keys nodes s.front_of g c → IsEndUnder keys is_first g place.nearest) → ForkFits nodes root s.front_of key place.depth place.fork
+  shown_at_edge long c fork_is leads ends past is_first end =
       let g = edge_front s.front_of above in
       let front : Begins g key = under g is_first (end g (covers_above keys nodes root s above c leads)) in
       let ends' : EndsBelow nodes above place.depth = subst (λ (d : ℕ). EndsBelow nodes above d) (sym deep) ends in
       let past' : PastDepth nodes place.depth c = subst (λ (d : ℕ). PastDepth nodes d c) (sym deep) past in
-      subst (λ (z : Spot). SpotFits nodes root s.front_of key place.depth z) (sym spot_is)
+      subst (λ (z : Fork). ForkFits nodes root s.front_of key place.depth z) (sym fork_is)
       (shown_past keys nodes root s place.nearest place.depth key is above c long leads ends' front past')

@@ -8,11 +8,11 @@ use Rattle.art_tree.specs.Leaves.{Leaves, Numbered, leaf_in, OthersStand, bytes,
 use Rattle.art_kinds.specs.Edges.{child_at}
 use Rattle.art_kinds.specs.Nodes.{Node, Nodes, Makes, room}
 use Rattle.art_tree.specs.Invariant.Shape.{Shape}
-use Rattle.art_tree.specs.Calls.Spots.{SpotFits}
+use Rattle.art_tree.specs.Calls.Forks.{ForkFits}
 use Rattle.art_kinds.specs.declared.records.ids.Child.{Child}
 use Rattle.art_kinds.specs.declared.records.ids.Child.TheVariants.{Leaf, Inner}
 use Rattle.art_kinds.specs.declared.records.ids.Edge.{Edge}
-use Rattle.art_tree.specs.declared.tree.descent.Spot.{Spot}
+use Rattle.art_tree.specs.declared.tree.descent.Fork.{Fork}
 use Rattle.art_tree.specs.declared.tree.point.Place.{Place}
 use Rattle.art_tree.specs.declared.tree.point.Point.{Point}
 use Rattle.art_tree.specs.declared.tree.point.Point.TheVariants.{Empty, Exact, Related, Free}
@@ -23,24 +23,24 @@ pub record Gains (old new : ℕ → Option Bytes) (i : ℕ) (k : Bytes) : Type 0
   pub has : new i ≡ Some k
   pub others : (j : ℕ) → j ≢ i → new j ≡ old j
 
--- in some tree with this root, the key leaves the nearest stored key at the spot
-pub record IsSpotFor (P : ℕ) (nodes : ℕ → Option Node) (root : Option Child) (spot : Spot) (key nearest : Bytes) (depth : ℕ) : Type 0 where
+-- in some tree with this root, the key parts from the nearest stored key at the fork
+pub record IsForkFor (P : ℕ) (nodes : ℕ → Option Node) (root : Option Child) (fork : Fork) (key nearest : Bytes) (depth : ℕ) : Type 0 where
   pub keys : ℕ → Option Bytes
   pub shape : Shape P keys nodes root
   pub leaf : ℕ
   pub is : keys leaf ≡ Some nearest
   pub leaves : LeavesNearest keys leaf depth key
-  pub fits : SpotFits nodes root shape.front_of nearest depth spot
+  pub fits : ForkFits nodes root shape.front_of nearest depth fork
 
--- in each tree of these keys, a key that leaves the nearest one at this depth does so at the spot
-abbrev pub IsShownIn : ℕ → (ℕ → Option Bytes) → (ℕ → Option Node) → Option Child → ℕ → ℕ → Spot → Type 0
-IsShownIn P keys nodes root nearest depth spot =
+-- in each tree of these keys, a key that parts from the nearest one at this depth does so here
+abbrev pub IsShownIn : ℕ → (ℕ → Option Bytes) → (ℕ → Option Node) → Option Child → ℕ → ℕ → Fork → Type 0
+IsShownIn P keys nodes root nearest depth fork =
     (s : Shape P keys nodes root) (key : Bytes) → keys nearest ≡ Some key → depth ≤ length key
-    → SpotFits nodes root s.front_of key depth spot
+    → ForkFits nodes root s.front_of key depth fork
 
 -- the same holds in each tree with this root
-abbrev pub IsShown : ℕ → (ℕ → Option Node) → Option Child → Place → Spot → Type 0
-IsShown P nodes root place spot = (keys : ℕ → Option Bytes) → IsShownIn P keys nodes root place.nearest place.depth spot
+abbrev pub IsShown : ℕ → (ℕ → Option Node) → Option Child → Place → Fork → Type 0
+IsShown P nodes root place fork = (keys : ℕ → Option Bytes) → IsShownIn P keys nodes root place.nearest place.depth fork
 
 -- if the point is free, this is true of its place
 abbrev pub IfFree : Point → (Place → Type 0) → Type 0
@@ -49,8 +49,8 @@ IfFree (Exact id) T = Unit {0}
 IfFree (Related first last) T = Unit {0}
 IfFree (Free place) T = T place
 
--- in some tree, this is the key of the place's nearest leaf, and the spot is right if it is known
-pub record HasNearest (P : ℕ) (nodes : ℕ → Option Node) (root : Option Child) (place : Place) (shown : Option Spot) (nearest : Bytes) : Type 0 where
+-- in some tree, this is the key of the place's nearest leaf, and the fork is right if it is known
+pub record HasNearest (P : ℕ) (nodes : ℕ → Option Node) (root : Option Child) (place : Place) (shown : Option Fork) (nearest : Bytes) : Type 0 where
   pub keys : ℕ → Option Bytes
   pub shape : Shape P keys nodes root
   pub is : keys place.nearest ≡ Some nearest
@@ -64,14 +64,14 @@ pub record IsOverLeaf (nodes : ℕ → Option Node) (n depth byte leaf : ℕ) : 
   pub deep : node.depth ≡ depth
   pub there : child_at node.edges byte ≡ Some (Leaf leaf)
 
--- each tree in which the key leaves the nearest key at the spot now has the leaf i with the key too
-abbrev pub TreeGains : ℕ → (ℕ → Option Node) → (ℕ → Option Node) → Option Child → Option Child → Spot → Bytes → Bytes → ℕ → ℕ → Type 0
-TreeGains P old new root root' spot key nearest depth i =
-    (keys keys' : ℕ → Option Bytes) (s : Shape P keys old root) (leaf : ℕ) → keys leaf ≡ Some nearest → LeavesNearest keys leaf depth key → SpotFits old root s.front_of nearest depth spot
+-- each tree in which the key parts from the nearest one at the fork now has the leaf i with it too
+abbrev pub TreeGains : ℕ → (ℕ → Option Node) → (ℕ → Option Node) → Option Child → Option Child → Fork → Bytes → Bytes → ℕ → ℕ → Type 0
+TreeGains P old new root root' fork key nearest depth i =
+    (keys keys' : ℕ → Option Bytes) (s : Shape P keys old root) (leaf : ℕ) → keys leaf ≡ Some nearest → LeavesNearest keys leaf depth key → ForkFits old root s.front_of nearest depth fork
     → Gains keys keys' i key → Shape P keys' new root'
 
 -- a node is made with these two edges, in the order of their bytes
-pub record Forks (old new : ℕ → Option Node) (n depth : ℕ) (prefix : List ℕ) (one other : Edge) : Type 0 where
+pub record MakesNodeOfTwo (old new : ℕ → Option Node) (n depth : ℕ) (prefix : List ℕ) (one other : Edge) : Type 0 where
   pub low : Edge
   pub high : Edge
   pub made : Makes old new n depth prefix low high
@@ -92,8 +92,8 @@ KeepsFrom P nodes (Inner n) key from = (x : Node) → nodes n ≡ Some x → x.p
 abbrev pub content_of : {K V : Type 0} → Leaves K V → Nodes → Content K V
 content_of leaves nodes = record { pairs = leaves.pairs; spares = record { leaves = leaves_room leaves; nodes = room nodes } }
 
--- the tree has all keys but that of the leaf i, which leaves the nearest key at this depth
-pub record IsToJoin (P : ℕ) (keys : ℕ → Option Bytes) (nodes : ℕ → Option Node) (root : Option Child) (nearest depth : ℕ) (shown : Option Spot) (i : ℕ) : Type 0 where
+-- the tree has all keys but that of the leaf i, which parts from the nearest key at this depth
+pub record IsToJoin (P : ℕ) (keys : ℕ → Option Bytes) (nodes : ℕ → Option Node) (root : Option Child) (nearest depth : ℕ) (shown : Option Fork) (i : ℕ) : Type 0 where
   pub rest : ℕ → Option Bytes
   pub shape : Shape P rest nodes root
   pub key : Bytes

@@ -83,14 +83,14 @@ module _ (P : ℕ) (keys : ℕ → Option Bytes) (nodes : ℕ → Option Node) w
     pub shape : Shape P keys nodes root
     pub alone : (j : ℕ) (k : Bytes) → keys j ≡ Some k → related k q ≡ false
 
-  -- q leaves the keys at a node, and its next byte is this one
+  -- q parts from the keys at a node, and its next byte is this one
   pub record LeavesAtNode (n byte : ℕ) (q : Bytes) : Type 0 where
     pub apart : NoneRelated q
     pub live : IsSome (nodes n)
     pub goes_on : Begins (apart.shape.front_of n ++ byte ∷ []) q
     pub none : (j : ℕ) (k : Bytes) → keys j ≡ Some k → Begins (apart.shape.front_of n ++ byte ∷ []) k → ⊥
 
-  -- q leaves the keys below the child after t: their next byte is `nearest_byte`, and q has another
+  -- q parts from the keys below the child after t: their next byte is `nearest_byte`, not q's
   pub record LeavesAtEdge (child : Child) (nearest_byte byte : ℕ) (q : Bytes) : Type 0 where
     pub apart : NoneRelated q
     pub t : Bytes

@@ -82,7 +82,7 @@ impl<K: AsBytes + Drop, V: Drop, const PREFIX_LEN: usize> Tree<K, V, PREFIX_LEN>
             Point::Related { first, .. } => Added::Conflict(first, key, value),
             Point::Empty => unreachable!(),
             Point::Free(place) => {
-                let shown = Some(place.spot);
+                let shown = Some(place.fork);
                 place_beside(
                     &mut self.leaves,
                     &mut self.skeleton,
@@ -122,7 +122,7 @@ fn add_first<K: AsBytes + Drop, V: Drop, const P: usize>(
     Ok(place_first(leaves, skeleton, key, value))
 }
 
-/// Adds a pair at a free place whose spot is right, and returns its leaf. Returns an error if it
+/// Adds a pair at a free place whose fork is right, and returns its leaf. Returns an error if it
 /// fails to allocate.
 fn add_beside<K: AsBytes + Drop, V: Drop, const P: usize>(
     leaves: &mut Leaves<K, V>,
@@ -133,8 +133,8 @@ fn add_beside<K: AsBytes + Drop, V: Drop, const P: usize>(
 ) -> Result<LeafId, AllocError>
     requires whole { IsSound K.bytes P leaves.old skeleton.old.nodes skeleton.old.root }
     requires free { IsFree K.bytes leaves.old.pairs place.now (K.bytes key) }
-    requires spot { IsShownIn P (keys_in K.bytes leaves.old.pairs) (at skeleton.old.nodes)
-        skeleton.old.root place.now.nearest place.now.depth place.now.spot }
+    requires fork { IsShownIn P (keys_in K.bytes leaves.old.pairs) (at skeleton.old.nodes)
+        skeleton.old.root place.now.nearest place.now.depth place.now.fork }
     ensures placed { IfOk result
         (λ id. PutsPair K.bytes leaves.old.pairs leaves.new.pairs id (key, value)) }
     ensures whole { OnOk result
@@ -147,7 +147,7 @@ fn add_beside<K: AsBytes + Drop, V: Drop, const P: usize>(
 {
     leaves.law();
     make_room_beside(leaves, &mut skeleton.nodes)?;
-    let shown = Some(place.spot);
+    let shown = Some(place.fork);
     Ok(place_beside(leaves, skeleton, place, &shown, key, value))
 }
 

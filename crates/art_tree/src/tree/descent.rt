@@ -4,33 +4,33 @@ ghost use Rattle.art_tree.specs.Begins.{Bytes};
 ghost use Rattle.art_kinds.specs.Nodes.{at};
 ghost use Rattle.art_tree.specs.Invariant.Shape.{Shape, Covers};
 ghost use Rattle.art_tree.specs.Calls.Descents.{IsSubtree, IsRoot, IsWayOf, Finds, IsEndUnder};
-ghost use Rattle.art_tree.specs.Calls.Spots.{SpotFits};
+ghost use Rattle.art_tree.specs.Calls.Forks.{ForkFits};
 ghost use Rattle.art_kinds.specs.declared.records.ids.Child.{Child as Way};
 
 use crate::tree::skeleton::EdgeAbove;
 use art_kinds::{Child, NodeId, Nodes};
 use art_slots::{LeafId, Visits};
 
-/// Where some bytes may leave the keys, with the edge above.
+/// A node or an edge at which some bytes part from the keys.
 #[derive(Clone, Copy)]
-pub(crate) enum Spot {
+pub(crate) enum Fork {
     /// A node, and the edge above it.
     Node(EdgeAbove, NodeId),
     /// An edge, and its child.
     Edge(EdgeAbove, Child),
 }
 
-impl Spot {
+impl Fork {
     ghost use Rattle.std.specs.Prelude.{◌≡◌};
-    ghost use Rattle.art_tree.specs.Calls.Spots.{above_of};
+    ghost use Rattle.art_tree.specs.Calls.Forks.{above_of};
 
-    /// Returns the edge above the spot.
+    /// Returns the edge above the fork.
     pub(crate) fn above(&self) -> EdgeAbove
         ensures { result ≡ above_of self.now }
     {
         match self {
-            Spot::Node(above, _) => *above,
-            Spot::Edge(above, _) => *above,
+            Fork::Node(above, _) => *above,
+            Fork::Edge(above, _) => *above,
         }
     }
 }
@@ -73,36 +73,33 @@ pub(crate) fn end_under<const P: usize>(
     }
 }
 
-/// Descends by a stored key, and returns the spot where another key would leave it at this depth.
+/// Descends by a stored key. Returns the fork at which another key parts from it at this depth.
 pub(crate) fn locate<const P: usize>(
     nodes: &Nodes<P>,
     root: &Child,
     nearest: &[u8],
     depth: usize,
-    visits: &mut Visits,
-) -> Spot
+) -> Fork
     requires { IsWayOf P (at nodes.now) root.now nearest.now depth }
-    ensures spot { (keys : ℕ → Option Bytes) (s : Shape P keys (at nodes.now) (Some root.now))
+    ensures { (keys : ℕ → Option Bytes) (s : Shape P keys (at nodes.now) (Some root.now))
         (i : ℕ)
         → keys i ≡ Some nearest.now
-        → SpotFits (at nodes.now) (Some root.now) s.front_of nearest.now depth result }
-    ensures counted { visits.new.count ≤ visits.old.count + depth + 1 }
-    ensures grows { visits.old.count ≤ visits.new.count }
+        → ForkFits (at nodes.now) (Some root.now) s.front_of nearest.now depth result }
 {
     let mut at = *root;
     let mut above = None;
     'down: loop {
         let id = match at {
-            Child::Leaf(_) => return Spot::Edge(above, at),
+            Child::Leaf(_) => return Fork::Edge(above, at),
             Child::Inner(id) => id,
         };
-        let node = nodes.read(id, visits);
+        let node = nodes.read(id, &mut Visits::new());
         let length = node.depth();
         if length > depth {
-            return Spot::Edge(above, at);
+            return Fork::Edge(above, at);
         }
         if length == depth {
-            return Spot::Node(above, id);
+            return Fork::Node(above, id);
         }
         let byte = nearest[length];
         match node.find(byte) {

@@ -2,10 +2,10 @@
 ghost use Rattle.std.specs.Prelude.{◌≡◌, ◌≢◌, ◌+◌, ◌-◌, ◌<◌, ◌≤◌, [], length, take, slice_range, slice_index_or, true, Option, Some, IfSome};
 ghost use Rattle.art_tree.specs.Begins.{Bytes};
 ghost use Rattle.art_tree.specs.Invariant.Shape.{Shape};
-ghost use Rattle.art_tree.specs.Calls.Spots.{SpotFits};
+ghost use Rattle.art_tree.specs.Calls.Forks.{ForkFits};
 ghost use Rattle.art_tree.specs.Invariant.EdgesAbove.{LeadsTo};
 ghost use Rattle.art_tree.specs.Content.{Fits, IsOpen, room as places};
-ghost use Rattle.art_tree.specs.Calls.Placing.{IsSpotFor, HasNearest, IsShown, IsShownIn, IsOverLeaf, IsToJoin, TreeGains, Forks, DepthWithin, KeepsFrom, PutsPair, content_of};
+ghost use Rattle.art_tree.specs.Calls.Placing.{IsForkFor, HasNearest, IsShown, IsShownIn, IsOverLeaf, IsToJoin, TreeGains, MakesNodeOfTwo, DepthWithin, KeepsFrom, PutsPair, content_of};
 ghost use Rattle.art_kinds.specs.Nodes.{at, room, FitsNew, SameSpares};
 ghost use Rattle.art_tree.specs.Leaves.{keys_in, room as leaves_room};
 ghost use Rattle.art_tree.specs.Calls.Removing.{EndsBelow, Cuts};
@@ -13,7 +13,7 @@ ghost use Rattle.art_tree.specs.Points.{IsFree, IsGood};
 ghost use Rattle.art_tree.specs.Invariant.Sound.{IsSound};
 ghost use Rattle.art_kinds.specs.declared.records.ids.Child.TheVariants.{Inner};
 
-use crate::tree::descent::{Spot, locate};
+use crate::tree::descent::{Fork, locate};
 use crate::tree::point::{Place, Point, leaf_before};
 use crate::tree::skeleton::{EdgeAbove, Skeleton, start_below};
 use art_kinds::{Child, Edge, NodeId, Nodes};
@@ -21,7 +21,7 @@ use art_rows::{Leaves, Position};
 use art_slots::{LeafId, Visits};
 use blart_keys::AsBytes;
 
-/// A leaf that joins the tree, and the depth at which its key leaves the other keys.
+/// A new leaf, and the depth at which its key parts from the other keys.
 #[derive(Clone, Copy)]
 struct NewLeaf<'a> {
     id: LeafId,
@@ -49,7 +49,7 @@ pub(crate) fn place_at<K: AsBytes + Drop, V: Drop, const P: usize>(
     match point {
         Point::Empty => place_first(leaves, skeleton, key, value),
         Point::Free(place) => {
-            let shown = spot_shown(skeleton, place);
+            let shown = fork_shown(skeleton, place);
             place_beside(leaves, skeleton, place, &shown, key, value)
         }
         _ => unreachable!(),
@@ -77,13 +77,13 @@ pub(crate) fn place_first<K: AsBytes + Drop, V: Drop, const P: usize>(
     id
 }
 
-/// Places a pair beside others, and returns its leaf. `shown` is the spot where its key leaves
-/// them, if that is known.
+/// Places a pair beside others, and returns its leaf. `shown` is the fork at which its key parts
+/// from theirs, if that is known.
 pub(crate) fn place_beside<K: AsBytes + Drop, V: Drop, const P: usize>(
     leaves: &mut Leaves<K, V>,
     skeleton: &mut Skeleton<P>,
     place: &Place,
-    shown: &Option<Spot>,
+    shown: &Option<Fork>,
     key: K,
     value: V,
 ) -> LeafId
@@ -109,17 +109,17 @@ impl<const P: usize> Skeleton<P> {
     ghost use Rattle.std.specs.Prelude.{◌≡◌, ◌+◌, ◌<◌, ◌≤◌};
     ghost use Rattle.art_tree.specs.Begins.{Bytes};
     ghost use Rattle.art_tree.specs.Invariant.Shape.{Shape};
-    ghost use Rattle.art_tree.specs.Calls.Placing.{IsSpotFor, IsToJoin, TreeGains};
+    ghost use Rattle.art_tree.specs.Calls.Placing.{IsForkFor, IsToJoin, TreeGains};
     ghost use Rattle.art_tree.specs.Leaves.{keys_in};
     ghost use Rattle.art_kinds.specs.Nodes.{at, room, FitsNew};
 
-    /// Adds a leaf at a place. `shown` is the spot where its key leaves the others, if that is
-    /// known. Reads the nearest leaf unless that spot is a node.
+    /// Adds a leaf at a place. `shown` is the fork at which its key parts from the others, if that
+    /// is known. Reads the nearest leaf unless that fork is a node.
     fn join<K: AsBytes, V>(
         &mut self,
         leaves: &Leaves<K, V>,
         place: &Place,
-        shown: &Option<Spot>,
+        shown: &Option<Fork>,
         id: LeafId,
     )
         requires joins { IsToJoin P (keys_in K.bytes leaves.now.pairs) (at self.old.nodes)
@@ -136,37 +136,37 @@ impl<const P: usize> Skeleton<P> {
             depth: place.depth,
         };
         let known = *shown;
-        if let Some(Spot::Node(above, node)) = known {
+        if let Some(Fork::Node(above, node)) = known {
             return self.add_at_node(&above, &node, &leaf);
         }
         let (nearest, _) = leaves.read(place.nearest, &mut Visits::new());
         let nearest = nearest.as_bytes();
-        let spot = spot_for(self, place, shown, nearest);
-        self.add_leaf(&spot, &leaf, nearest);
+        let fork = fork_for(self, place, shown, nearest);
+        self.add_leaf(&fork, &leaf, nearest);
     }
 
-    /// Adds a leaf where its key leaves the nearest key.
-    fn add_leaf(&mut self, spot: &Spot, leaf: &NewLeaf<'_>, nearest: &[u8])
-        requires spot_fits { IsSpotFor P (at self.old.nodes) self.old.root spot.now
+    /// Adds a leaf at the fork at which its key parts from the nearest key.
+    fn add_leaf(&mut self, fork: &Fork, leaf: &NewLeaf<'_>, nearest: &[u8])
+        requires fork_fits { IsForkFor P (at self.old.nodes) self.old.root fork.now
             leaf.now.key.now nearest.now leaf.now.depth }
         requires fits { 0 < room self.old.nodes }
         ensures gains { TreeGains P (at self.old.nodes) (at self.new.nodes) self.old.root
-            self.new.root spot.now leaf.now.key.now nearest.now leaf.now.depth leaf.now.id }
+            self.new.root fork.now leaf.now.key.now nearest.now leaf.now.depth leaf.now.id }
         ensures room { room self.old.nodes ≤ room self.new.nodes + 1 }
     {
-        match spot {
-            Spot::Node(above, node) => self.add_at_node(above, node, leaf),
-            Spot::Edge(above, child) => self.add_at_edge(above, child, leaf, nearest),
+        match fork {
+            Fork::Node(above, node) => self.add_at_node(above, node, leaf),
+            Fork::Edge(above, child) => self.add_at_edge(above, child, leaf, nearest),
         }
     }
 
-    /// Adds a leaf to a node where its key leaves the others.
+    /// Adds a leaf to a node at which its key parts from the others.
     fn add_at_node(&mut self, above: &EdgeAbove, node: &NodeId, leaf: &NewLeaf<'_>)
-        requires spot_fits { (nearest : Bytes) × IsSpotFor P (at self.old.nodes) self.old.root
-            (Spot.Node above.now node.now) leaf.now.key.now nearest leaf.now.depth }
+        requires fork_fits { (nearest : Bytes) × IsForkFor P (at self.old.nodes) self.old.root
+            (Fork.Node above.now node.now) leaf.now.key.now nearest leaf.now.depth }
         requires fits { 0 < room self.old.nodes }
         ensures gains { (nearest : Bytes) → TreeGains P (at self.old.nodes) (at self.new.nodes)
-            self.old.root self.new.root (Spot.Node above.now node.now) leaf.now.key.now nearest
+            self.old.root self.new.root (Fork.Node above.now node.now) leaf.now.key.now nearest
             leaf.now.depth leaf.now.id }
         ensures room { room self.old.nodes ≤ room self.new.nodes + 1 }
     {
@@ -176,13 +176,13 @@ impl<const P: usize> Skeleton<P> {
             .add_edge(wide, leaf.key[leaf.depth], Child::Leaf(leaf.id));
     }
 
-    /// Adds a leaf at an edge where its key leaves those below, under a new node.
+    /// Adds a leaf at an edge at which its key parts from those below. A new node has both.
     fn add_at_edge(&mut self, above: &EdgeAbove, child: &Child, leaf: &NewLeaf<'_>, nearest: &[u8])
-        requires spot_fits { IsSpotFor P (at self.old.nodes) self.old.root
-            (Spot.Edge above.now child.now) leaf.now.key.now nearest.now leaf.now.depth }
+        requires fork_fits { IsForkFor P (at self.old.nodes) self.old.root
+            (Fork.Edge above.now child.now) leaf.now.key.now nearest.now leaf.now.depth }
         requires fits { FitsNew self.old.nodes }
         ensures gains { TreeGains P (at self.old.nodes) (at self.new.nodes) self.old.root
-            self.new.root (Spot.Edge above.now child.now) leaf.now.key.now nearest.now
+            self.new.root (Fork.Edge above.now child.now) leaf.now.key.now nearest.now
             leaf.now.depth leaf.now.id }
         ensures room { room self.old.nodes ≤ room self.new.nodes + 1 }
     {
@@ -195,7 +195,7 @@ impl<const P: usize> Skeleton<P> {
             to: Child::Leaf(leaf.id),
         };
         let other = Edge { byte, to: *child };
-        let made = fork(
+        let made = node_of_two(
             &mut self.nodes,
             depth,
             &leaf.key[start..depth],
@@ -206,36 +206,33 @@ impl<const P: usize> Skeleton<P> {
     }
 }
 
-/// Returns where a key leaves the nearest key at the depth of a place: the spot that is known, or
-/// else the end of a descent by the nearest key.
-fn spot_for<const P: usize>(
+/// Returns the fork at which a key parts from the nearest key at the depth of a place. It is the
+/// fork that is known, or else the end of a descent by the nearest key.
+fn fork_for<const P: usize>(
     skeleton: &Skeleton<P>,
     place: &Place,
-    shown: &Option<Spot>,
+    shown: &Option<Fork>,
     nearest: &[u8],
-) -> Spot
+) -> Fork
     requires { HasNearest P (at skeleton.now.nodes) skeleton.now.root place.now shown.now
         nearest.now }
     ensures { (h : HasNearest P (at skeleton.now.nodes) skeleton.now.root place.now shown.now
         nearest.now)
-        → SpotFits (at skeleton.now.nodes)
+        → ForkFits (at skeleton.now.nodes)
         skeleton.now.root h.shape.front_of nearest.now place.now.depth result }
 {
     match shown {
-        Some(spot) => *spot,
+        Some(fork) => *fork,
         None => match skeleton.root {
-            Some(root) => {
-                let mut visits = Visits::new();
-                locate(&skeleton.nodes, &root, nearest, place.depth, &mut visits)
-            }
+            Some(root) => locate(&skeleton.nodes, &root, nearest, place.depth),
             None => unreachable!(),
         },
     }
 }
 
-/// Returns the spot of a place as it is now. Returns `None` if the edge above it no longer leads to
+/// Returns the fork of a place as it is now. Returns `None` if the edge above it no longer leads to
 /// the nearest leaf, or to a node at the place's depth with an edge to that leaf. Reads no leaf.
-fn spot_shown<const P: usize>(skeleton: &Skeleton<P>, place: &Place) -> Option<Spot>
+fn fork_shown<const P: usize>(skeleton: &Skeleton<P>, place: &Place) -> Option<Fork>
     ensures { IfSome result (IsShown P (at skeleton.now.nodes) skeleton.now.root place.now) }
 {
     let (above, child) = edge_toward(skeleton, place)?;
@@ -244,25 +241,25 @@ fn spot_shown<const P: usize>(skeleton: &Skeleton<P>, place: &Place) -> Option<S
             if id != place.nearest {
                 return None;
             }
-            Some(Spot::Edge(above, Child::Leaf(id)))
+            Some(Fork::Edge(above, Child::Leaf(id)))
         }
         Child::Inner(id) => {
             if !is_over_nearest(&skeleton.nodes, &id, place) {
                 return None;
             }
-            Some(Spot::Node(above, id))
+            Some(Fork::Node(above, id))
         }
     }
 }
 
-/// Returns the edge above a place, and the child that it leads to, if the node of that edge is above
-/// the place.
+/// Returns the edge above a place, and the child that it leads to, or `None` if that edge is gone
+/// or its node is not above the place.
 fn edge_toward<const P: usize>(skeleton: &Skeleton<P>, place: &Place) -> Option<(EdgeAbove, Child)>
     ensures leads { IfSome result
         (λ e. LeadsTo (at skeleton.now.nodes) skeleton.now.root e.0 e.1) }
     ensures ends { IfSome result (λ e. EndsBelow (at skeleton.now.nodes) e.0 place.now.depth) }
 {
-    let Some((parent, byte)) = place.spot.above() else {
+    let Some((parent, byte)) = place.fork.above() else {
         return Some((None, skeleton.root?));
     };
     if !skeleton.nodes.has(parent) {
@@ -299,7 +296,7 @@ fn is_over_nearest<const P: usize>(nodes: &Nodes<P>, id: &NodeId, place: &Place)
 }
 
 /// Makes a node with two edges.
-fn fork<const P: usize>(
+fn node_of_two<const P: usize>(
     nodes: &mut Nodes<P>,
     depth: usize,
     prefix: &[u8],
@@ -308,7 +305,7 @@ fn fork<const P: usize>(
 ) -> NodeId
     requires fits { FitsNew nodes.old }
     requires apart { one.now.byte ≢ other.now.byte }
-    ensures made { Forks (at nodes.old) (at nodes.new) result depth
+    ensures made { MakesNodeOfTwo (at nodes.old) (at nodes.new) result depth
         (take P prefix.now) one.now other.now }
     ensures room { room nodes.old ≤ room nodes.new + 1 }
 {

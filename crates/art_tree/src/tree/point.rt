@@ -12,7 +12,7 @@ ghost use Rattle.art_kinds.specs.Nodes.{at};
 ghost use Rattle.art_tree.specs.Points.{IsGood};
 ghost use Rattle.art_tree.specs.Invariant.Sound.{IsSound};
 
-use crate::tree::descent::{Spot, end_under};
+use crate::tree::descent::{Fork, end_under};
 use crate::tree::stop::{Stop, edge_beside, stop_of};
 use art_kinds::{Child, Edge, Nodes};
 use art_rows::{Leaves, Position};
@@ -29,8 +29,8 @@ pub struct Place {
     pub(crate) depth: usize,
     /// The side of the nearest leaf that the place is on.
     pub(crate) beside: Beside,
-    /// The node or the edge where the bytes leave the keys. It may have changed since.
-    pub(crate) spot: Spot,
+    /// The fork at which the bytes part from the keys. It may have changed since.
+    pub(crate) fork: Fork,
     /// The byte of the nearest key after the first `depth` bytes.
     pub(crate) byte: u8,
 }
@@ -62,7 +62,7 @@ pub enum Point {
     Free(Place),
 }
 
-/// Returns the point of some bytes in a tree with some pairs. If it is free, its spot is right.
+/// Returns the point of some bytes in a tree with some pairs. If it is free, its fork is right.
 pub(crate) fn point_below<K: AsBytes, V, const P: usize>(
     leaves: &Leaves<K, V>,
     nodes: &Nodes<P>,
@@ -71,8 +71,8 @@ pub(crate) fn point_below<K: AsBytes, V, const P: usize>(
 ) -> Point
     requires { IsSound K.bytes P leaves.now nodes.now (Some root.now) }
     ensures good { IsGood K.bytes leaves.now.pairs result query.now }
-    ensures spot { IfFree result (λ place. IsShownIn P (keys_in K.bytes leaves.now.pairs)
-        (at nodes.now) (Some root.now) place.nearest place.depth place.spot) }
+    ensures fork { IfFree result (λ place. IsShownIn P (keys_in K.bytes leaves.now.pairs)
+        (at nodes.now) (Some root.now) place.nearest place.depth place.fork) }
 {
     leaves.law();
     let mut visits = Visits::new();
@@ -89,14 +89,14 @@ pub(crate) fn point_below<K: AsBytes, V, const P: usize>(
         },
         Stop::AtNode(id, depth) => {
             let (edge, is_after) = edge_beside(nodes, &id, query[depth], &mut visits);
-            let spot = Spot::Node(above, id);
-            Point::Free(place_under(nodes, &edge, is_after, depth, &spot))
+            let fork = Fork::Node(above, id);
+            Point::Free(place_under(nodes, &edge, is_after, depth, &fork))
         }
         Stop::AtEdge(child, depth, byte) => {
             let to = &child;
             let edge = Edge { byte, to: *to };
-            let spot = Spot::Edge(above, *to);
-            Point::Free(place_under(nodes, &edge, byte < query[depth], depth, &spot))
+            let fork = Fork::Edge(above, *to);
+            Point::Free(place_under(nodes, &edge, byte < query[depth], depth, &fork))
         }
     }
 }
@@ -107,7 +107,7 @@ fn place_under<const P: usize>(
     edge: &Edge,
     is_after: bool,
     depth: usize,
-    spot: &Spot,
+    fork: &Fork,
 ) -> Place
     requires { (keys : ℕ → Option Bytes) × (q : Bytes)
         × IsPlaceUnder P keys (at nodes.now) q depth edge.now.to is_after }
@@ -123,7 +123,7 @@ fn place_under<const P: usize>(
         → Covers keys (at nodes.now) s.front_of g edge.now.to
         → IsEndUnder keys (not is_after) g result.nearest }
     ensures depth { result.depth ≡ depth }
-    ensures spot { result.spot ≡ spot.now }
+    ensures fork { result.fork ≡ fork.now }
 {
     let nearest = end_under(nodes, &edge.to, !is_after, &mut Visits::new());
     if is_after {
@@ -131,7 +131,7 @@ fn place_under<const P: usize>(
             nearest,
             depth,
             beside: Beside::AfterLeaf(nearest),
-            spot: *spot,
+            fork: *fork,
             byte: edge.byte,
         }
     } else {
@@ -139,7 +139,7 @@ fn place_under<const P: usize>(
             nearest,
             depth,
             beside: Beside::BeforeLeaf(nearest),
-            spot: *spot,
+            fork: *fork,
             byte: edge.byte,
         }
     }

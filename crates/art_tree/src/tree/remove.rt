@@ -6,7 +6,7 @@ ghost use Rattle.art_tree.specs.Begins.{Bytes};
 ghost use Rattle.art_tree.specs.Leaves.{leaf_in, Has, OthersStand, without_number, keys_in, bytes};
 ghost use Rattle.art_kinds.specs.Nodes.{at};
 ghost use Rattle.art_tree.specs.Calls.Removing.{Loses, IsLeafOf, IsChildBelow, OtherEdge, CutsAfter, Merged};
-ghost use Rattle.art_tree.specs.Calls.Spots.{IsLeafSpot};
+ghost use Rattle.art_tree.specs.Calls.Forks.{IsLeafPath};
 ghost use Rattle.art_tree.specs.Invariant.Shape.{Shape};
 ghost use Rattle.art_tree.specs.Invariant.Sound.{IsSound};
 ghost use Rattle.art_kinds.specs.declared.records.ids.Child.{Child as Way};
@@ -14,7 +14,7 @@ ghost use Rattle.art_kinds.specs.declared.records.ids.Child.TheVariants.{Leaf, I
 
 use crate::tree::Tree;
 use crate::tree::search::pair_toward;
-use crate::tree::skeleton::{EdgeAbove, LeafSpot, Skeleton};
+use crate::tree::skeleton::{EdgeAbove, LeafPath, Skeleton};
 use art_kinds::{Child, Edge, NodeId, Nodes};
 use art_rows::{Leaves, Position};
 use art_slots::{LeafId, Visits};
@@ -35,8 +35,8 @@ impl<K: AsBytes + Drop, V: Drop, const PREFIX_LEN: usize> Tree<K, V, PREFIX_LEN>
         self.leaves.law();
         // The row is read before the descent, so that neither waits for the other.
         let seen = self.leaves.position_of(id);
-        let spot = spot_of(&self.leaves, &self.skeleton, &id);
-        take_leaf(&mut self.leaves, &mut self.skeleton, &spot, &seen)
+        let path = path_of(&self.leaves, &self.skeleton, &id);
+        take_leaf(&mut self.leaves, &mut self.skeleton, &path, &seen)
     }
 
     /// Removes the pair with these bytes and returns it, or returns `None` if there is no such
@@ -51,49 +51,49 @@ impl<K: AsBytes + Drop, V: Drop, const PREFIX_LEN: usize> Tree<K, V, PREFIX_LEN>
             → leaf_in self.old.pairs id ≡ Some x }
     {
         self.leaves.law();
-        let (spot, seen) = spot_at(&self.leaves, &self.skeleton, query)?;
-        Some(take_leaf(&mut self.leaves, &mut self.skeleton, &spot, &seen))
+        let (path, seen) = path_at(&self.leaves, &self.skeleton, query)?;
+        Some(take_leaf(&mut self.leaves, &mut self.skeleton, &path, &seen))
     }
 }
 
-/// Returns the leaf with these bytes, the edges to it and its position, or `None` if there is no
-/// such leaf. It reads the leaf's row before it compares the key, so that neither read waits for
-/// the other.
-fn spot_at<K: AsBytes, V, const P: usize>(
+/// Returns the path of the leaf with these bytes, and its position, or `None` if there is no such
+/// leaf. It reads the leaf's row before it compares the key, so that neither read waits for the
+/// other.
+fn path_at<K: AsBytes, V, const P: usize>(
     leaves: &Leaves<K, V>,
     skeleton: &Skeleton<P>,
     query: &[u8],
-) -> Option<(LeafSpot, Position)>
+) -> Option<(LeafPath, Position)>
     requires { IsSound K.bytes P leaves.now skeleton.now.nodes skeleton.now.root }
     ensures found { option_map (λ s. s.0.id) result
         ≡ option_map (λ p. p.0) (stored (bytes K.bytes) leaves.now.pairs query.now) }
-    ensures spot { IfSome result
-        (λ s. IsLeafSpot (at skeleton.now.nodes) skeleton.now.root s.0) }
+    ensures path { IfSome result
+        (λ s. IsLeafPath (at skeleton.now.nodes) skeleton.now.root s.0) }
 {
     leaves.law();
     let mut visits = Visits::new();
     let (nodes, root) = (&skeleton.nodes, &skeleton.root);
-    let Some((spot, key, _)) = pair_toward(leaves, nodes, root, query, &mut visits) else {
+    let Some((path, key, _)) = pair_toward(leaves, nodes, root, query, &mut visits) else {
         return None;
     };
-    let seen = leaves.position_of(spot.id);
+    let seen = leaves.position_of(path.id);
     if key.as_bytes() == query {
-        Some((spot, seen))
+        Some((path, seen))
     } else {
         None
     }
 }
 
-/// Returns a leaf with the edges to it.
-fn spot_of<K: AsBytes, V, const P: usize>(
+/// Returns the path of a leaf.
+fn path_of<K: AsBytes, V, const P: usize>(
     leaves: &Leaves<K, V>,
     skeleton: &Skeleton<P>,
     id: &LeafId,
-) -> LeafSpot
+) -> LeafPath
     requires sound { IsSound K.bytes P leaves.now skeleton.now.nodes skeleton.now.root }
     requires has { Has leaves.now.pairs id.now }
     ensures same { result.id ≡ id.now }
-    ensures spot { IsLeafSpot (at skeleton.now.nodes) skeleton.now.root result }
+    ensures path { IsLeafPath (at skeleton.now.nodes) skeleton.now.root result }
 {
     let mut visits = Visits::new();
     let (key, _) = leaves.read(*id, &mut visits);
@@ -108,19 +108,19 @@ fn spot_of<K: AsBytes, V, const P: usize>(
 fn take_leaf<K: AsBytes + Drop, V: Drop, const P: usize>(
     leaves: &mut Leaves<K, V>,
     skeleton: &mut Skeleton<P>,
-    spot: &LeafSpot,
+    path: &LeafPath,
     seen: &Position,
 ) -> (K, V)
     requires sound { IsSound K.bytes P leaves.old skeleton.old.nodes skeleton.old.root }
-    requires has { Has leaves.old.pairs spot.now.id }
-    requires spot { IsLeafSpot (at skeleton.old.nodes) skeleton.old.root spot.now }
-    ensures value { leaf_in leaves.old.pairs spot.now.id ≡ Some result }
-    ensures rest { leaves.new.pairs ≡ without_number leaves.old.pairs spot.now.id }
+    requires has { Has leaves.old.pairs path.now.id }
+    requires path { IsLeafPath (at skeleton.old.nodes) skeleton.old.root path.now }
+    ensures value { leaf_in leaves.old.pairs path.now.id ≡ Some result }
+    ensures rest { leaves.new.pairs ≡ without_number leaves.old.pairs path.now.id }
     ensures sound { IsSound K.bytes P leaves.new skeleton.new.nodes skeleton.new.root }
 {
     leaves.law();
-    skeleton.unlink(leaves, spot);
-    leaves.remove(spot.id, *seen)
+    skeleton.unlink(leaves, path);
+    leaves.remove(path.id, *seen)
 }
 
 impl<const P: usize> Skeleton<P> {
@@ -130,23 +130,23 @@ impl<const P: usize> Skeleton<P> {
     ghost use Rattle.art_tree.specs.Invariant.Shape.{Shape};
     ghost use Rattle.art_tree.specs.Invariant.Sound.{IsSound};
     ghost use Rattle.art_tree.specs.Calls.Removing.{Loses, IsLeafOf, Merged};
-    ghost use Rattle.art_tree.specs.Calls.Spots.{IsLeafSpot};
+    ghost use Rattle.art_tree.specs.Calls.Forks.{IsLeafPath};
     ghost use Rattle.art_tree.specs.Leaves.{Has, keys_in};
     ghost use Rattle.art_kinds.specs.Nodes.{at};
     ghost use Rattle.art_kinds.specs.declared.records.ids.Child.TheVariants.{Leaf, Inner};
 
     /// Removes the edge to a leaf, and the node of that edge if one other edge is left.
-    fn unlink<K: AsBytes, V>(&mut self, leaves: &Leaves<K, V>, spot: &LeafSpot)
+    fn unlink<K: AsBytes, V>(&mut self, leaves: &Leaves<K, V>, path: &LeafPath)
         requires sound { IsSound K.bytes P leaves.now self.old.nodes self.old.root }
-        requires has { Has leaves.now.pairs spot.now.id }
-        requires spot { IsLeafSpot (at self.old.nodes) self.old.root spot.now }
+        requires has { Has leaves.now.pairs path.now.id }
+        requires path { IsLeafPath (at self.old.nodes) self.old.root path.now }
         ensures { (keys : ℕ → Option Bytes) (k : Bytes)
-            → Loses (keys_in K.bytes leaves.now.pairs) keys spot.now.id k
+            → Loses (keys_in K.bytes leaves.now.pairs) keys path.now.id k
             → Shape P keys (at self.new.nodes) self.new.root }
     {
-        match spot.edge {
+        match path.edge {
             None => self.root = None,
-            Some((node, byte)) => self.drop_edge(leaves, &spot.above, &node, byte, &spot.id),
+            Some((node, byte)) => self.drop_edge(leaves, &path.above, &node, byte, &path.id),
         }
     }
 
@@ -174,7 +174,7 @@ impl<const P: usize> Skeleton<P> {
             return self.shrink(above, node, byte);
         }
         let other = other_edge(&self.nodes, node, byte);
-        join_child(&mut self.nodes, node, &other);
+        prepend_prefix(&mut self.nodes, node, &other);
         self.merge(above, node, &other.to);
     }
 
@@ -221,9 +221,9 @@ fn other_edge<const P: usize>(nodes: &Nodes<P>, node: &NodeId, byte: u8) -> Edge
     }
 }
 
-/// Joins the compressed prefixes of a node and of its child, with the byte between them, if the
-/// child is a node. The child keeps the first bytes of the result.
-fn join_child<const P: usize>(nodes: &mut Nodes<P>, node: &NodeId, edge: &Edge)
+/// Prepends the compressed prefix of a node, and the byte of its edge, to the compressed prefix of
+/// the child, if the child is a node. The child keeps the first bytes of the result.
+fn prepend_prefix<const P: usize>(nodes: &mut Nodes<P>, node: &NodeId, edge: &Edge)
     requires { (keys : ℕ → Option Bytes) × (above : Option (ℕ × ℕ))
         × IsChildBelow P keys (at nodes.old) above node.now edge.now }
     ensures { (keys : ℕ → Option Bytes) (above : Option (ℕ × ℕ))

@@ -3,7 +3,7 @@ ghost use Rattle.std.specs.Prelude.{◌≡◌, ◌+◌, ◌<◌, ◌≤◌, ℕ,
 ghost use Rattle.blart_keys.specs.Content.{at, front_of};
 ghost use Rattle.art_tree.specs.Begins.{Bytes};
 ghost use Rattle.art_tree.specs.Calls.Descents.{IsRoot, GoesTo, IsFrontAlone};
-ghost use Rattle.art_tree.specs.Calls.Spots.{IsLeafSpot};
+ghost use Rattle.art_tree.specs.Calls.Forks.{IsLeafPath};
 ghost use Rattle.art_tree.specs.Leaves.{Has, bytes};
 ghost use Rattle.art_kinds.specs.Nodes.{at as nodes_at};
 ghost use Rattle.art_tree.specs.Invariant.Shape.{Shape};
@@ -11,7 +11,7 @@ ghost use Rattle.art_tree.specs.Invariant.Sound.{IsSound};
 
 use crate::lists::begins;
 use crate::tree::Tree;
-use crate::tree::skeleton::LeafSpot;
+use crate::tree::skeleton::LeafPath;
 use art_kinds::{Child, Nodes};
 use art_rows::Leaves;
 use art_slots::{LeafId, Visits};
@@ -162,7 +162,7 @@ fn leaf_below<const P: usize>(
     }
 }
 
-/// Returns the only pair whose key may be a prefix of these bytes, and the edges to its leaf, or
+/// Returns the only pair whose key may be a prefix of these bytes, and the path of its leaf, or
 /// `None` if no key is.
 pub(crate) fn pair_toward<'a, K: AsBytes, V, const P: usize>(
     leaves: &'a Leaves<K, V>,
@@ -170,11 +170,11 @@ pub(crate) fn pair_toward<'a, K: AsBytes, V, const P: usize>(
     root: &Option<Child>,
     query: &[u8],
     visits: &mut Visits,
-) -> Option<(LeafSpot, &'a K, &'a V)>
+) -> Option<(LeafPath, &'a K, &'a V)>
     requires { IsSound K.bytes P leaves.now nodes.now root.now }
     ensures found { IsFrontAlone K.bytes leaves.now.pairs query.now
         (option_map (λ f. (f.0.id, (f.1.now, f.2.now))) result) }
-    ensures spot { IfSome result (λ f. IsLeafSpot (nodes_at nodes.now) root.now f.0) }
+    ensures path { IfSome result (λ f. IsLeafPath (nodes_at nodes.now) root.now f.0) }
     ensures counted { visits.new.count ≤ visits.old.count + length query.now + 1 }
     ensures grows { visits.old.count ≤ visits.new.count }
     ensures empty { leaves.now.pairs ≡ [] → visits.new.count ≡ visits.old.count }
@@ -182,23 +182,23 @@ pub(crate) fn pair_toward<'a, K: AsBytes, V, const P: usize>(
     let Some(root) = root else {
         return None;
     };
-    let spot = leaf_toward(nodes, root, query, visits)?;
-    let (key, value) = leaves.read(spot.id, visits);
-    Some((spot, key, value))
+    let path = leaf_toward(nodes, root, query, visits)?;
+    let (key, value) = leaves.read(path.id, visits);
+    Some((path, key, value))
 }
 
-/// Returns the only leaf whose key may be a prefix of the query, with the edges to it, or `None` if
-/// no key is.
+/// Returns the path of the only leaf whose key may be a prefix of the query, or `None` if no key
+/// is.
 fn leaf_toward<const P: usize>(
     nodes: &Nodes<P>,
     root: &Child,
     query: &[u8],
     visits: &mut Visits,
-) -> Option<LeafSpot>
+) -> Option<LeafPath>
     requires { IsRoot P (nodes_at nodes.now) root.now }
     ensures goes { (keys : ℕ → Option Bytes) → Shape P keys (nodes_at nodes.now) (Some root.now)
         → GoesTo keys query.now visits.old.count visits.new.count (option_map (λ s. s.id) result) }
-    ensures spot { IfSome result (IsLeafSpot (nodes_at nodes.now) (Some root.now)) }
+    ensures path { IfSome result (IsLeafPath (nodes_at nodes.now) (Some root.now)) }
     ensures grows { visits.old.count ≤ visits.new.count }
 {
     let mut at = *root;
@@ -206,7 +206,7 @@ fn leaf_toward<const P: usize>(
     let mut above = None;
     'down: loop {
         let id = match at {
-            Child::Leaf(id) => return Some(LeafSpot { id, edge, above }),
+            Child::Leaf(id) => return Some(LeafPath { id, edge, above }),
             Child::Inner(id) => id,
         };
         let node = nodes.read(id, visits);

@@ -17,9 +17,9 @@ pub(crate) struct Skeleton<const P: usize> {
 /// The edge above a child: the number of a node, and a byte. It is `None` for the root.
 pub(crate) type EdgeAbove = Option<(NodeId, u8)>;
 
-/// A leaf, the edge to it, and the edge above the node of that edge.
+/// The path of a leaf: the leaf, the edge to it, and the edge above the node of that edge.
 #[derive(Clone, Copy)]
-pub(crate) struct LeafSpot {
+pub(crate) struct LeafPath {
     pub(crate) id: LeafId,
     pub(crate) edge: EdgeAbove,
     pub(crate) above: EdgeAbove,

@@ -1,5 +1,5 @@
-//! The descent by the bytes of a query. It compares the prefixes that the nodes keep. A leaf is read
-//! if the descent comes to it, or if the bytes that a node keeps do not decide.
+//! The descent by the bytes of a query. It compares the prefixes that the nodes keep. It reads a
+//! leaf if it comes to one, or if the bytes that a node keeps do not decide.
 ghost use Rattle.std.specs.Prelude.{◌≡◌, ◌+◌, ◌*◌, ◌<◌, ◌≤◌, ℕ, length, Option, Some};
 ghost use Rattle.art_tree.specs.Begins.{Bytes};
 ghost use Rattle.art_tree.specs.Calls.Stops.{OnWay, IsShared, IsStop, IsStep, StopsAt, IsStopBelow, LeavesAtNode, IsEdgeBeside};
@@ -26,10 +26,10 @@ pub(crate) enum Stop {
     Shorter(LeafId),
     /// The query is a proper prefix of the keys below this child, and of no others.
     Longer(Child),
-    /// The query leaves the keys at this node, after this number of bytes.
+    /// The query parts from the keys at this node, after this number of bytes.
     AtNode(NodeId, usize),
-    /// The query leaves the keys below this child after this number of bytes. The last field is the
-    /// next byte of the keys.
+    /// The query parts from the keys below this child after this number of bytes. The last field is
+    /// the next byte of the keys.
     AtEdge(Child, usize, u8),
 }
 
@@ -79,7 +79,8 @@ pub(crate) fn stop_of<K: AsBytes, V, const P: usize>(
 ) -> (Stop, EdgeAbove)
     requires { IsSound K.bytes P leaves.now nodes.now (Some root.now) }
     ensures stop { IsStop P (keys_in K.bytes leaves.now.pairs) (at nodes.now) result.0 query.now }
-    ensures above { IsStopBelow (at nodes.now) (Some root.now) (length query.now) result.1 result.0 }
+    ensures above { IsStopBelow (at nodes.now) (Some root.now)
+        (length query.now) result.1 result.0 }
     ensures counted { visits.new.count
         ≤ visits.old.count + (length query.now + 1)
         * (longest (bytes K.bytes) leaves.now.pairs + 1) }
@@ -171,8 +172,8 @@ fn step_at<K: AsBytes, V, const P: usize>(
     }
 }
 
-/// Returns what the front of a node and a query have in common, of which the first `start` bytes
-/// are known. The kept bytes decide if they differ from the query, or are the whole prefix.
+/// Returns what the front of a node and a query have in common. Their first `start` bytes are known
+/// to be equal. The kept bytes decide if they differ from the query, or are the whole prefix.
 fn shared_at<K: AsBytes, V, const P: usize>(
     leaves: &Leaves<K, V>,
     nodes: &Nodes<P>,
@@ -208,7 +209,7 @@ fn shared_at<K: AsBytes, V, const P: usize>(
     shared_below(leaves, nodes, node, start, id, query, visits)
 }
 
-/// Like `shared_at`, by a leaf below the node.
+/// Returns what `shared_at` returns, by a leaf below the node.
 #[cold]
 #[inline(never)]
 fn shared_below<K: AsBytes, V, const P: usize>(
@@ -240,7 +241,7 @@ fn shared_below<K: AsBytes, V, const P: usize>(
 }
 
 /// Returns the edge beside a byte that a node lacks, and `true` if the byte is after it. If there
-/// are two, it is the edge before the byte: keys that come in ascending order have only that one.
+/// are two, it is the edge before the byte. Keys that come in ascending order have only that one.
 pub(crate) fn edge_beside<const P: usize>(
     nodes: &Nodes<P>,
     id: &NodeId,

@@ -48,8 +48,8 @@ pub add_beside-requires : goal.add_beside-requires
 add_beside-requires g c =
     let i = c.self.inside in
     let p = c.in-Free.place in
-    let spot = subst (λ (r : Option Child). IsShownIn g.row.PREFIX_LEN (keys_in g.K.AsBytes.bytes i.leaves.pairs) (at i.skeleton.nodes) r p.nearest p.depth p.spot) (sym c.in-Some.is) c.in-Free.ensures.spot in
-    (lit< tt, (c.self.invariant, (rw c.as_bytes.ensures at c.in-Free.ensures.good, spot)))
+    let fork = subst (λ (r : Option Child). IsShownIn g.row.PREFIX_LEN (keys_in g.K.AsBytes.bytes i.leaves.pairs) (at i.skeleton.nodes) r p.nearest p.depth p.fork) (sym c.in-Some.is) c.in-Free.ensures.fork in
+    (lit< tt, (c.self.invariant, (rw c.as_bytes.ensures at c.in-Free.ensures.good, fork)))
 
 pub invariant_of-self-in_err-add_beside-in-Free : goal.invariant_of-self-in_err-add_beside-in-Free
 invariant_of-self-in_err-add_beside-in-Free g c =

@@ -42,8 +42,8 @@ place_beside-requires g c =
     let i = c.self.inside in
     let p = c.in-Free.place in
     let room : 0 < places (content_of i.leaves i.skeleton.nodes) = subst (λ (t : Content g.row.K.Denot g.row.V.Denot). 0 < places t) (sym c.self.view_is) c.requires.room in
-    let spot = subst (λ (r : Option Child). IsShownIn g.row.PREFIX_LEN (keys_in g.K.AsBytes.bytes i.leaves.pairs) (at i.skeleton.nodes) r p.nearest p.depth p.spot) (sym c.in-Some.is) c.in-Free.ensures.spot in
-    (lit< tt, (c.self.invariant, (rw c.as_bytes.ensures at c.in-Free.ensures.good, (spot, (omega arith, omega arith)))))
+    let fork = subst (λ (r : Option Child). IsShownIn g.row.PREFIX_LEN (keys_in g.K.AsBytes.bytes i.leaves.pairs) (at i.skeleton.nodes) r p.nearest p.depth p.fork) (sym c.in-Some.is) c.in-Free.ensures.fork in
+    (lit< tt, (c.self.invariant, (rw c.as_bytes.ensures at c.in-Free.ensures.good, (fork, (omega arith, omega arith)))))
 
 pub returns-in-Free-clause-added : goal.returns-in-Free-clause-added
 returns-in-Free-clause-added g c =

@@ -3,7 +3,7 @@ use Rattle.art_tree.proofs.tree.Tree.remove.Goals as goal
 
 pub returns-clause-others : goal.returns-clause-others
 returns-clause-others g c =
-    rw (← c.self.view_is, c.take_leaf.ensures.rest, c.spot_of-spot.ensures.same) (others-without_number c.self.inside.leaves.pairs c.args.id c.law.ensures.distinct)
+    rw (← c.self.view_is, c.take_leaf.ensures.rest, c.path_of-path.ensures.same) (others-without_number c.self.inside.leaves.pairs c.args.id c.law.ensures.distinct)
 
 pub returns-clause-gone : goal.returns-clause-gone
-returns-clause-gone g c = rw (c.take_leaf.ensures.rest, c.spot_of-spot.ensures.same) (leaf_in-without_now c.self.inside.leaves.pairs c.args.id c.law.ensures.distinct)
+returns-clause-gone g c = rw (c.take_leaf.ensures.rest, c.path_of-path.ensures.same) (leaf_in-without_now c.self.inside.leaves.pairs c.args.id c.law.ensures.distinct)

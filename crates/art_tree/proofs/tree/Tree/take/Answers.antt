@@ -5,28 +5,28 @@ use Rattle.art_tree.proofs.NumberedPairs.LookUps.{found_at, without_found, witho
 use Rattle.art_tree.proofs.NumberedPairs.Outside.{stood_without}
 use Rattle.art_tree.proofs.tree.Tree.take.Goals as goal
 
-pub returns-in_err-spot-clause-rest : goal.returns-in_err-spot-clause-rest
-returns-in_err-spot-clause-rest g c = rw (← c.self.view_is) (without_none g.K.AsBytes.bytes c.self.inside.leaves.pairs c.self.invariant.content c.law.ensures.distinct c.args.query.now c.in_err-spot.ensures.found)
+pub returns-in_err-path-clause-rest : goal.returns-in_err-path-clause-rest
+returns-in_err-path-clause-rest g c = rw (← c.self.view_is) (without_none g.K.AsBytes.bytes c.self.inside.leaves.pairs c.self.invariant.content c.law.ensures.distinct c.args.query.now c.in_err-path.ensures.found)
 
 pub take_leaf-requires : goal.take_leaf-requires
 take_leaf-requires g c =
     let S = c.self.inside.leaves.pairs in
-    let f = found_at g.K.AsBytes.bytes S c.self.invariant.content c.law.ensures.distinct c.args.query.now c.in_ok-spot.spot.id c.in_ok-spot.ensures.found in
-    (lit< tt, (c.self.invariant, (is_some (leaf_in S c.in_ok-spot.spot.id) f.0 f.2, c.in_ok-spot.ensures.spot)))
+    let f = found_at g.K.AsBytes.bytes S c.self.invariant.content c.law.ensures.distinct c.args.query.now c.in_ok-path.path.id c.in_ok-path.ensures.found in
+    (lit< tt, (c.self.invariant, (is_some (leaf_in S c.in_ok-path.path.id) f.0 f.2, c.in_ok-path.ensures.path)))
 
 pub returns-clause-taken : goal.returns-clause-taken
 returns-clause-taken g c =
     let S = c.self.inside.leaves.pairs in
-    let f = found_at g.K.AsBytes.bytes S c.self.invariant.content c.law.ensures.distinct c.args.query.now c.in_ok-spot.spot.id c.in_ok-spot.ensures.found in
+    let f = found_at g.K.AsBytes.bytes S c.self.invariant.content c.law.ensures.distinct c.args.query.now c.in_ok-path.path.id c.in_ok-path.ensures.found in
     rw (← c.self.view_is) (sym c.take_leaf.ensures.value ∙ f.2 ∙ sym (ap (option_map (λ (p : Numbered _ _). p.1)) f.1))
 
 pub returns-clause-rest : goal.returns-clause-rest
 returns-clause-rest g c =
     let S = c.self.inside.leaves.pairs in
-    let f = found_at g.K.AsBytes.bytes S c.self.invariant.content c.law.ensures.distinct c.args.query.now c.in_ok-spot.spot.id c.in_ok-spot.ensures.found in
-    rw (← c.self.view_is) (c.take_leaf.ensures.rest ∙ without_found g.K.AsBytes.bytes S c.self.invariant.content c.law.ensures.distinct c.args.query.now c.in_ok-spot.spot.id f.0 f.1 f.2)
+    let f = found_at g.K.AsBytes.bytes S c.self.invariant.content c.law.ensures.distinct c.args.query.now c.in_ok-path.path.id c.in_ok-path.ensures.found in
+    rw (← c.self.view_is) (c.take_leaf.ensures.rest ∙ without_found g.K.AsBytes.bytes S c.self.invariant.content c.law.ensures.distinct c.args.query.now c.in_ok-path.path.id f.0 f.1 f.2)
 
 pub returns-clause-others : goal.returns-clause-others
 returns-clause-others g c =
     let S = c.self.inside.leaves.pairs in
-    rw (← c.self.view_is, c.take_leaf.ensures.rest) (stood_without S c.in_ok-spot.spot.id c.law.ensures.distinct)
+    rw (← c.self.view_is, c.take_leaf.ensures.rest) (stood_without S c.in_ok-path.path.id c.law.ensures.distinct)

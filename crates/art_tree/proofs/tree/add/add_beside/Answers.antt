@@ -21,8 +21,8 @@ place_beside-requires g c =
     let whole = sound_same kb l l' n n' root r.whole m.ensures.pairs m.ensures.nodes in
     let free = subst (λ (S : List (Numbered g.row.K.Denot g.row.V.Denot)). IsFree kb S p (kb c.args.key)) (sym m.ensures.pairs) r.free in
     let same : at n ≡ at n' = λ i j. sym (m.ensures.nodes j) i in
-    let keyed = subst (λ (S : List (Numbered g.row.K.Denot g.row.V.Denot)). IsShownIn P (keys_in kb S) (at n) root p.nearest p.depth p.spot) (sym m.ensures.pairs) r.spot in
-    let shown = subst (λ (f : ℕ → Option Node). IsShownIn P (keys_in kb l'.pairs) f root p.nearest p.depth p.spot) same keyed in
+    let keyed = subst (λ (S : List (Numbered g.row.K.Denot g.row.V.Denot)). IsShownIn P (keys_in kb S) (at n) root p.nearest p.depth p.fork) (sym m.ensures.pairs) r.fork in
+    let shown = subst (λ (f : ℕ → Option Node). IsShownIn P (keys_in kb l'.pairs) f root p.nearest p.depth p.fork) same keyed in
     let fits = c.in_ok-make_room_beside.ensures.fits in
     (lit< tt, (whole, (free, (shown, (fits.0, fits.1)))))
 

@@ -1,17 +1,16 @@
-use Rattle.std.proofs.Common.{◌≡◌, ◌≤◌, ℕ, Option, Some}
+use Rattle.std.proofs.Common.{◌≡◌, ℕ, Option, Some}
 use Rattle.art_tree.specs.Begins.{Bytes}
 use Rattle.art_kinds.specs.Nodes.{at}
 use Rattle.art_tree.specs.Invariant.EdgesAbove.{LeadsTo}
 use Rattle.art_tree.specs.Invariant.Shape.{Shape}
 use Rattle.art_tree.proofs.Ways.Depths.{rank}
-use Rattle.art_tree.proofs.Ways.ToSpot.{Follows}
+use Rattle.art_tree.proofs.Ways.ToFork.{Follows}
 use Rattle.art_tree.proofs.tree.descent.locate.Given as goal
 
 abbrev pub invariant-down : goal.invariant-down
 invariant-down g l = record {
-  way : (keys : ℕ → Option Bytes) (s : Shape g.row.P keys (at l.nodes) (Some l.fn.root)) (i : ℕ) → keys i ≡ Some l.nearest → Follows keys (at l.nodes) s.front_of l.nearest l.depth l.above l.at l.initial.visits.count l.visits.count;
+  way : (keys : ℕ → Option Bytes) (s : Shape g.row.P keys (at l.nodes) (Some l.fn.root)) (i : ℕ) → keys i ≡ Some l.nearest → Follows keys (at l.nodes) s.front_of l.nearest l.depth l.above l.at;
   leads : LeadsTo (at l.nodes) (Some l.fn.root) l.above l.at;
-  rising : l.initial.visits.count ≤ l.visits.count;
 }
 
 abbrev pub decreases-down : goal.decreases-down

@@ -15,5 +15,5 @@ place_beside-requires g c =
     let n = c.args.skeleton.now.nodes in
     let free = subst (λ (p : Point). IsGood kb l.pairs p (kb c.args.key)) c.in-Free.is c.requires.good in
     let fits : 0 < places (content_of l n) = subst (λ (p : Point). Fits (content_of l n) p) c.in-Free.is c.requires.fits in
-    let shown = shown_rest _ (at n) c.args.skeleton.now.root c.in-Free.place (keys_in kb l.pairs) c.spot_shown-shown.result c.spot_shown-shown.ensures in
+    let shown = shown_rest _ (at n) c.args.skeleton.now.root c.in-Free.place (keys_in kb l.pairs) c.fork_shown-shown.result c.fork_shown-shown.ensures in
     (lit< tt, (c.requires.whole, (free, (shown, (omega arith, omega arith)))))

@@ -52,8 +52,8 @@ returns-in-AtEdge-clause-good g c =
     let h = place_at_edge l.0 l.1 l.2 _ refl in
     record { leaves = c.place_under-in-AtEdge.ensures.leaves _ _ h; beside = c.place_under-in-AtEdge.ensures.beside _ _ h; same = c.place_under-in-AtEdge.ensures.same }
 
-pub returns-in-AtNode-clause-spot : goal.returns-in-AtNode-clause-spot
-returns-in-AtNode-clause-spot g c s key is long =
+pub returns-in-AtNode-clause-fork : goal.returns-in-AtNode-clause-fork
+returns-in-AtNode-clause-fork g c s key is long =
     let keys = keys_in g.K.AsBytes.bytes c.args.leaves.now.pairs in
     let nodes = at c.args.nodes.now in
     let root = Some c.args.root.now in
@@ -61,13 +61,13 @@ returns-in-AtNode-clause-spot g c s key is long =
     let e = c.edge_beside-edge.ensures.edge in
     let l = subst (λ (z : Stop). IsStop g.row.P keys nodes z c.args.query.now) c.in-AtNode.is c.stop_of-stop.ensures.stop in
     let leads = subst (λ (z : Stop). IsStopBelow nodes root (length c.args.query.now) c.stop_of-stop.result.1 z) c.in-AtNode.is c.stop_of-stop.ensures.above in
-    shown_at_node keys nodes root s p.result key is c.stop_of-stop.result.1 _ p.ensures.depth _ p.ensures.spot leads _ e.is _ c.args.query.now l.0 l.1 _ _ e.next (p.ensures.end keys root s)
+    shown_at_node keys nodes root s p.result key is c.stop_of-stop.result.1 _ p.ensures.depth _ p.ensures.fork leads _ e.is _ c.args.query.now l.0 l.1 _ _ e.next (p.ensures.end keys root s)
 
-pub returns-in-AtEdge-clause-spot : goal.returns-in-AtEdge-clause-spot
-returns-in-AtEdge-clause-spot g c s key is long =
+pub returns-in-AtEdge-clause-fork : goal.returns-in-AtEdge-clause-fork
+returns-in-AtEdge-clause-fork g c s key is long =
     let keys = keys_in g.K.AsBytes.bytes c.args.leaves.now.pairs in
     let nodes = at c.args.nodes.now in
     let root = Some c.args.root.now in
     let p = c.place_under-in-AtEdge in
     let b = subst (λ (z : Stop). IsStopBelow nodes root (length c.args.query.now) c.stop_of-stop.result.1 z) c.in-AtEdge.is c.stop_of-stop.ensures.above in
-    shown_at_edge keys nodes root s p.result key is c.stop_of-stop.result.1 _ p.ensures.depth long _ p.ensures.spot b.0 b.1 b.2 _ (p.ensures.end keys root s)
+    shown_at_edge keys nodes root s p.result key is c.stop_of-stop.result.1 _ p.ensures.depth long _ p.ensures.fork b.0 b.1 b.2 _ (p.ensures.end keys root s)

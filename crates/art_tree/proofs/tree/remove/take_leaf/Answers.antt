@@ -9,7 +9,7 @@ use Rattle.art_tree.proofs.tree.remove.take_leaf.Goals as goal
 pub returns-clause-sound : goal.returns-clause-sound
 returns-clause-sound g c =
     let old = c.args.leaves.now.pairs in
-    let i = c.args.spot.now.id in
+    let i = c.args.path.now.id in
     let kb = g.K.AsBytes.bytes in
     let new = without_number old i in
     let loses = loses_from kb old new i (others-without_number old i c.law.ensures.distinct) c.remove.result c.remove.ensures.value (leaf_in-without_now old i c.law.ensures.distinct) in

@@ -22,8 +22,8 @@ returns-in-Leaf-clause-goes g c = λ keys s.
     let short : length w.front ≤ length c.args.query.now = w.holds.short in
     (record { key = w.covers.key; is = w.covers.is; only = λ j k e b. w.covers.only j k e (w.holds.holds j k e b) }, omega arith)
 
-pub returns-in-Leaf-clause-spot : goal.returns-in-Leaf-clause-spot
-returns-in-Leaf-clause-spot g c = record { leads = subst (λ (z : Child). LeadsTo (at c.args.nodes.now) (Some c.args.root.now) c.down.edge z) c.in-Leaf.is c.down.invariant.leads; above = c.down.invariant.above }
+pub returns-in-Leaf-clause-path : goal.returns-in-Leaf-clause-path
+returns-in-Leaf-clause-path g c = record { leads = subst (λ (z : Child). LeadsTo (at c.args.nodes.now) (Some c.args.root.now) c.down.edge z) c.in-Leaf.is c.down.invariant.leads; above = c.down.invariant.above }
 
 pub read-node-requires : goal.read-node-requires
 read-node-requires g c =

@@ -3,7 +3,7 @@ use Rattle.art_tree.specs.Begins.{Bytes}
 use Rattle.art_kinds.specs.Nodes.{at}
 use Rattle.art_tree.specs.Invariant.EdgesAbove.{LeadsTo}
 use Rattle.art_tree.specs.Invariant.Shape.{Shape}
-use Rattle.art_tree.specs.Calls.Spots.{LeadsToNodeOf}
+use Rattle.art_tree.specs.Calls.Forks.{LeadsToNodeOf}
 use Rattle.art_tree.proofs.Ways.Depths.{rank}
 use Rattle.art_tree.proofs.Ways.ToQuery.{HoldsFronts}
 use Rattle.art_tree.proofs.Ways.WaysDown.{WayDown}

@@ -14,22 +14,22 @@ pub leaf_toward-requires : goal.leaf_toward-requires
 leaf_toward-requires g c =
     (lit< tt, is_root (rooted c.requires.shape c.in-Some.is))
 
-pub returns-in_err-spot-clause-found : goal.returns-in_err-spot-clause-found
-returns-in_err-spot-clause-found g c =
+pub returns-in_err-path-clause-found : goal.returns-in_err-path-clause-found
+returns-in_err-path-clause-found g c =
     let s = rooted c.requires.shape c.in-Some.is in
-    rw c.from_residual.ensures ((c.in_err-spot.ensures.goes _ s).0)
+    rw c.from_residual.ensures ((c.in_err-path.ensures.goes _ s).0)
 
-pub returns-in_err-spot-clause-counted : goal.returns-in_err-spot-clause-counted
-returns-in_err-spot-clause-counted g c =
+pub returns-in_err-path-clause-counted : goal.returns-in_err-path-clause-counted
+returns-in_err-path-clause-counted g c =
     let s = rooted c.requires.shape c.in-Some.is in
-    (c.in_err-spot.ensures.goes _ s).1
+    (c.in_err-path.ensures.goes _ s).1
 
 pub read-requires : goal.read-requires
 read-requires g c =
     let s = rooted c.requires.shape c.in-Some.is in
-    only_has g.K.AsBytes.bytes c.args.leaves.now.pairs c.args.query.now c.in_ok-spot.spot.id ((c.in_ok-spot.ensures.goes _ s).0)
+    only_has g.K.AsBytes.bytes c.args.leaves.now.pairs c.args.query.now c.in_ok-path.path.id ((c.in_ok-path.ensures.goes _ s).0)
 
 pub returns-clause-counted : goal.returns-clause-counted
 returns-clause-counted g c =
     let s = rooted c.requires.shape c.in-Some.is in
-    omega (arith, (c.in_ok-spot.ensures.goes _ s).1, c.read.ensures.counted)
+    omega (arith, (c.in_ok-path.ensures.goes _ s).1, c.read.ensures.counted)

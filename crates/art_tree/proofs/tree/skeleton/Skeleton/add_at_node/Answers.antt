@@ -10,12 +10,12 @@ use Rattle.art_tree.proofs.tree.skeleton.Skeleton.add_at_node.Goals as goal
 
 pub widen-wide-requires : goal.widen-wide-requires
 widen-wide-requires g c =
-    let j = c.requires.spot_fits.1 in
+    let j = c.requires.fork_fits.1 in
     (lit< tt, ((covers_above j.keys (at c.args.self.now.nodes) c.args.self.now.root j.shape c.args.above.now (Inner c.args.node.now) j.fits.0.leads).live, fits_more c.args.self.now.nodes c.args.node.now (let r = c.requires.fits in omega arith)))
 
 pub redirect_moved-requires : goal.redirect_moved-requires
 redirect_moved-requires g c =
-    let j = c.requires.spot_fits.1 in (
+    let j = c.requires.fork_fits.1 in (
       lit< tt,
       (
         leads_renamed j.keys (at c.args.self.now.nodes) (at c.widen-wide.new.self) c.args.self.now.root j.shape c.args.node.now c.args.above.now c.widen-wide.result j.fits.0.leads c.widen-wide.ensures.moved,
@@ -25,11 +25,11 @@ redirect_moved-requires g c =
 
 pub add_edge-requires : goal.add_edge-requires
 add_edge-requires g c =
-    let j = c.requires.spot_fits.1 in (
+    let j = c.requires.fork_fits.1 in (
       lit< tt,
       (
         place_led c.widen-wide.new.self c.redirect_moved.new.self.nodes c.args.self.now.root c.redirect_moved.new.self.root c.args.above.now (Inner c.widen-wide.result) c.widen-wide.result c.redirect_moved.ensures.turned c.widen-wide.ensures.place,
-        wide_absent j.keys j.leaf c.args.leaf.now.depth c.args.leaf.now.key.now j.leaves c.requires.spot_fits.0 j.is (at c.args.self.now.nodes) (at c.widen-wide.new.self) (at c.redirect_moved.new.self.nodes) c.args.self.now.root c.redirect_moved.new.self.root c.args.node.now c.widen-wide.result c.args.above.now j.shape j.fits.1
+        wide_absent j.keys j.leaf c.args.leaf.now.depth c.args.leaf.now.key.now j.leaves c.requires.fork_fits.0 j.is (at c.args.self.now.nodes) (at c.widen-wide.new.self) (at c.redirect_moved.new.self.nodes) c.args.self.now.root c.redirect_moved.new.self.root c.args.node.now c.widen-wide.result c.args.above.now j.shape j.fits.1
             c.widen-wide.ensures.moved j.fits.0.leads c.redirect_moved.ensures.turned,
       ),
     )

@@ -46,8 +46,8 @@ other_edge-other-requires g c =
       ),
     )
 
-pub join_child-requires : goal.join_child-requires
-join_child-requires g c =
+pub prepend_prefix-requires : goal.prepend_prefix-requires
+prepend_prefix-requires g c =
     let keys = keys_in g.K.AsBytes.bytes c.args.leaves.now.pairs in
     (lit< tt, (keys, c.args.above.now, child_below_edge keys (at c.args.self.now.nodes) c.args.self.now.root c.requires.sound.shape c.args.above.now c.args.node.now c.args.byte c.other_edge-other.result c.requires.above c.other_edge-other.ensures))
 
@@ -55,10 +55,10 @@ pub merge-requires : goal.merge-requires
 merge-requires g c =
     let s = c.requires.sound.shape in
     let above = c.args.above.now in
-    let cuts = c.join_child.ensures (keys_in g.K.AsBytes.bytes c.args.leaves.now.pairs) c.args.above.now (child_below_edge (keys_in g.K.AsBytes.bytes c.args.leaves.now.pairs) (at c.args.self.now.nodes) c.args.self.now.root c.requires.sound.shape c.args.above.now c.args.node.now c.args.byte c.other_edge-other.result c.requires.above c.other_edge-other.ensures) in
+    let cuts = c.prepend_prefix.ensures (keys_in g.K.AsBytes.bytes c.args.leaves.now.pairs) c.args.above.now (child_below_edge (keys_in g.K.AsBytes.bytes c.args.leaves.now.pairs) (at c.args.self.now.nodes) c.args.self.now.root c.requires.sound.shape c.args.above.now c.args.node.now c.args.byte c.other_edge-other.result c.requires.above c.other_edge-other.ensures) in
     let o = c.other_edge-other.ensures in
-    let y = cut_node g.row.P (at c.args.self.now.nodes) (at c.join_child.new.nodes) s.front_of _ c.other_edge-other.result.to cuts c.args.node.now o.node o.is in
-    (lit< tt, (cut_leads g.row.P (at c.args.self.now.nodes) (at c.join_child.new.nodes) s.front_of _ c.other_edge-other.result.to cuts c.args.self.now.root above (Inner c.args.node.now) c.requires.above, is_some (at c.join_child.new.nodes c.args.node.now) y.0 y.1))
+    let y = cut_node g.row.P (at c.args.self.now.nodes) (at c.prepend_prefix.new.nodes) s.front_of _ c.other_edge-other.result.to cuts c.args.node.now o.node o.is in
+    (lit< tt, (cut_leads g.row.P (at c.args.self.now.nodes) (at c.prepend_prefix.new.nodes) s.front_of _ c.other_edge-other.result.to cuts c.args.self.now.root above (Inner c.args.node.now) c.requires.above, is_some (at c.prepend_prefix.new.nodes c.args.node.now) y.0 y.1))
 
 pub returns : goal.returns
 returns g c = λ keys k loses.
@@ -67,7 +67,7 @@ returns g c = λ keys k loses.
     let nodes = at c.args.self.now.nodes in
     let above = c.args.above.now in
     let h = leaf_at_node g.K.AsBytes.bytes c.args.leaves.now.pairs nodes c.args.self.now.root r.sound.shape c.args.id.now r.has c.args.node.now c.args.byte r.leads above c.requires.above in
-    let cuts = c.join_child.ensures (keys_in g.K.AsBytes.bytes c.args.leaves.now.pairs) c.args.above.now (child_below_edge (keys_in g.K.AsBytes.bytes c.args.leaves.now.pairs) (at c.args.self.now.nodes) c.args.self.now.root c.requires.sound.shape c.args.above.now c.args.node.now c.args.byte c.other_edge-other.result c.requires.above c.other_edge-other.ensures) in
+    let cuts = c.prepend_prefix.ensures (keys_in g.K.AsBytes.bytes c.args.leaves.now.pairs) c.args.above.now (child_below_edge (keys_in g.K.AsBytes.bytes c.args.leaves.now.pairs) (at c.args.self.now.nodes) c.args.self.now.root c.requires.sound.shape c.args.above.now c.args.node.now c.args.byte c.other_edge-other.result c.requires.above c.other_edge-other.ensures) in
     let o = c.other_edge-other.ensures in
     let a : nodes c.args.node.now ≡ Some h.node = h.is in
     let b : nodes c.args.node.now ≡ Some c.read.result = c.read.ensures.value in
@@ -80,4 +80,4 @@ returns g c = λ keys k loses.
     let u : c.count-count.result ≤ 2 = c.if-count-gt2.false in
     let m = c.merge.ensures in
     edge_merged old keys nodes c.args.self.now.root c.args.node.now c.args.id.now c.args.byte h.key h.shape (loses_same old keys c.args.id.now k h.key loses h.key_is) h.node h.is h.low
-    (at c.join_child.new.nodes) m.0 (at c.merge.new.self.nodes) c.merge.new.self.root c.other_edge-other.result.byte c.other_edge-other.result.to high o.other (omega arith) m.2 above h.leads cuts m.1
+    (at c.prepend_prefix.new.nodes) m.0 (at c.merge.new.self.nodes) c.merge.new.self.root c.other_edge-other.result.byte c.other_edge-other.result.to high o.other (omega arith) m.2 above h.leads cuts m.1

@@ -3,10 +3,10 @@ use Rattle.std.specs.Prelude.{IfSome}
 use Rattle.art_kinds.specs.Nodes.{at}
 use Rattle.art_kinds.specs.declared.records.ids.Child.{Child}
 use Rattle.art_tree.specs.Calls.Placing.{IsShownIn}
-use Rattle.art_tree.specs.Calls.Spots.{SpotFits}
+use Rattle.art_tree.specs.Calls.Forks.{ForkFits}
 use Rattle.art_tree.specs.Invariant.Shape.{Shape}
-use Rattle.art_tree.specs.declared.tree.descent.Spot.{Spot}
-use Rattle.art_tree.proofs.tree.place.spot_for.Goals as goal
+use Rattle.art_tree.specs.declared.tree.descent.Fork.{Fork}
+use Rattle.art_tree.proofs.tree.place.fork_for.Goals as goal
 
 pub locate-requires : goal.locate-requires
 locate-requires g c =
@@ -17,9 +17,9 @@ locate-requires g c =
 pub returns-in-Some : goal.returns-in-Some
 returns-in-Some g c = λ h.
     let p = c.args.place.now in
-    subst (λ (o : Option Spot). IfSome o (IsShownIn g.row.P h.keys (at c.args.skeleton.now.nodes) c.args.skeleton.now.root p.nearest p.depth)) c.in-Some.is h.known h.shape c.args.nearest.now h.is h.within
+    subst (λ (o : Option Fork). IfSome o (IsShownIn g.row.P h.keys (at c.args.skeleton.now.nodes) c.args.skeleton.now.root p.nearest p.depth)) c.in-Some.is h.known h.shape c.args.nearest.now h.is h.within
 
 pub returns-in-Some-root : goal.returns-in-Some-root
 returns-in-Some-root g c = λ h.
     let nodes = at c.args.skeleton.now.nodes in
-    subst (λ (z : Option Child). (s : Shape g.row.P h.keys nodes z) → SpotFits nodes z s.front_of c.args.nearest.now c.args.place.now.depth c.locate.result) (sym c.in-Some-root.is) (λ s. c.locate.ensures.spot h.keys s c.args.place.now.nearest h.is) h.shape
+    subst (λ (z : Option Child). (s : Shape g.row.P h.keys nodes z) → ForkFits nodes z s.front_of c.args.nearest.now c.args.place.now.depth c.locate.result) (sym c.in-Some-root.is) (λ s. c.locate.ensures h.keys s c.args.place.now.nearest h.is) h.shape

@@ -7,7 +7,7 @@ use Rattle.art_kinds.specs.declared.records.ids.Child.{Child}
 use Rattle.art_kinds.specs.declared.records.ids.Child.TheVariants.{Leaf, Inner}
 use Rattle.art_tree.specs.Invariant.EdgesAbove.{LeadsTo}
 use Rattle.art_tree.proofs.Ways.Shown.{shown_edge, shown_node}
-use Rattle.art_tree.proofs.tree.place.spot_shown.Goals as goal
+use Rattle.art_tree.proofs.tree.place.fork_shown.Goals as goal
 
 pub returns-else-ne : goal.returns-else-ne
 returns-else-ne g c = λ keys s nearest is long.

@@ -3,7 +3,7 @@ use Rattle.art_tree.specs.Begins.{Bytes}
 use Rattle.art_tree.specs.Leaves.{keys_in}
 use Rattle.art_tree.proofs.BeginsLemmas.{Begins-itself}
 use Rattle.art_tree.proofs.NumberedPairs.Keys.{key_of_pair}
-use Rattle.art_tree.proofs.tree.remove.spot_of.Goals as goal
+use Rattle.art_tree.proofs.tree.remove.path_of.Goals as goal
 
 pub unreachable-requires : goal.unreachable-requires
 unreachable-requires g c =

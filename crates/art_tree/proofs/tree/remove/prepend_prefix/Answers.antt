@@ -8,7 +8,7 @@ use Rattle.art_kinds.specs.declared.records.ids.Child.{Child}
 use Rattle.art_kinds.specs.declared.records.ids.Child.TheVariants.{Inner}
 use Rattle.blart_keys.proofs.Options.{is_some, some_of}
 use Rattle.art_tree.proofs.Calls.Unlinking.{join_is}
-use Rattle.art_tree.proofs.tree.remove.join_child.Goals as goal
+use Rattle.art_tree.proofs.tree.remove.prepend_prefix.Goals as goal
 
 pub join_prefix-requires : goal.join_prefix-requires
 join_prefix-requires g c =
