@@ -19,7 +19,7 @@ use Rattle.art_tree.proofs.BeginsLemmas.{Begins-length, Begins-take, Begins-tran
 use Rattle.art_tree.proofs.Invariant.Growing.{Departs, Gains, covers_above, no_edge}
 use Rattle.art_tree.proofs.NumberedPairs.KeyChanges.{departs_at, next_at}
 use Rattle.art_tree.proofs.Invariant.EdgesAbove.{leads_made}
-use Rattle.art_tree.proofs.Invariant.OneEdge.{node_moved}
+use Rattle.art_tree.proofs.Invariant.Moving.{node_moved}
 use Rattle.blart_keys.proofs.Options.{some_of}
 use Rattle.art_tree.proofs.Calls.PlacedShapes.{along_key, nearest_long, placed_edge}
 use Rattle.art_tree.proofs.Invariant.Prefixes.{start_is, cut_front, cuts_after, cut_leads}
@@ -47,7 +47,7 @@ module _ (keys : ℕ → Option Bytes) (leaf depth : ℕ) (q : Bytes) (good : Le
   pub wide_absent : {P : ℕ} → (nodes mid wide : ℕ → Option Node) (root root' : Option Child) (n n' : ℕ) (above : Option (ℕ × ℕ)) (s : Shape P keys nodes root) → s.front_of n ≡ take depth m
       → Renames nodes mid n n' → LeadsTo nodes root above (Inner n) → TurnsTo mid wide root root' above (Inner n') → IsSomeAnd (wide n') (λ x. child_at x.edges (get_or q depth 0) ≡ None)
   wide_absent nodes mid wide root root' n n' above s stands ren leads turns =
-      let w = node_moved keys nodes mid wide root root' n n' above s ren leads turns in
+      let w = node_moved keys nodes mid wide root root' n n' s ren above leads turns in
       let e : eqb n' n' ≡ true = eq-eqb n' n' refl in
       let f : w.0.front_of n' ≡ s.front_of n = w.1 n' ∙ rw e refl in
       let t : w.0.front_of n' ≡ take depth q = f ∙ stands ∙ along_key keys leaf depth q good m m_is in

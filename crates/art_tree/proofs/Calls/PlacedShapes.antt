@@ -14,7 +14,7 @@ use Rattle.art_kinds.specs.declared.records.ids.Edge.{Edge}
 use Rattle.art_tree.proofs.BeginsLemmas.{Begins-more}
 use Rattle.art_tree.proofs.Invariant.Growing.{Departs, Gains, leaf_added}
 use Rattle.art_tree.proofs.NumberedPairs.KeyChanges.{departs_at, next_at, nearest_next_at}
-use Rattle.art_tree.proofs.Invariant.OneEdge.{node_moved}
+use Rattle.art_tree.proofs.Invariant.Moving.{node_moved}
 use Rattle.art_tree.proofs.Invariant.Splitting.{HoldBoth, edge_split}
 
 module _ (keys : ℕ → Option Bytes) (nearest depth : ℕ) (q : Bytes) (good : LeavesNearest keys nearest depth q) (m : Bytes) (m_is : keys nearest ≡ Some m) where
@@ -54,7 +54,7 @@ module _ (keys : ℕ → Option Bytes) (nearest depth : ℕ) (q : Bytes) (good :
     pub placed_wide : {P : ℕ} → (nodes mid wide nodes' : ℕ → Option Node) (root root' : Option Child) (n n' : ℕ) (above : Option (ℕ × ℕ)) (s : Shape P keys nodes root) → s.front_of n ≡ take depth m
         → Renames nodes mid n n' → LeadsTo nodes root above (Inner n) → TurnsTo mid wide root root' above (Inner n') → AddsEdgeTo wide nodes' n' (get_or q depth 0) (Leaf i) → Shape P keys' nodes' root'
     placed_wide nodes mid wide nodes' root root' n n' above s stands ren leads turns adds =
-        let w = node_moved keys nodes mid wide root root' n n' above s ren leads turns in
+        let w = node_moved keys nodes mid wide root root' n n' s ren above leads turns in
         let e : eqb n' n' ≡ true = eq-eqb n' n' refl in
         let f : w.0.front_of n' ≡ s.front_of n = w.1 n' ∙ rw e refl in
         placed_node wide root' w.0 n' (f ∙ stands) nodes' adds

@@ -16,7 +16,8 @@ use Rattle.art_kinds.specs.declared.records.ids.Child.TheVariants.{Leaf, Inner}
 use Rattle.art_tree.proofs.BeginsLemmas.{take_front, Begins-length}
 use Rattle.art_tree.proofs.Invariant.Growing.{covers_above}
 use Rattle.art_tree.proofs.Invariant.Losing.{shape_dropped}
-use Rattle.art_tree.proofs.Invariant.OneEdge.{not_itself, kept_mid, node_moved}
+use Rattle.art_tree.proofs.Invariant.OneEdge.{not_itself, kept_mid}
+use Rattle.art_tree.proofs.Invariant.Moving.{node_moved}
 use Rattle.blart_keys.proofs.Options.{some_of, not_some}
 use Rattle.art_tree.proofs.NumberedPairs.Keys.{key_of_pair}
 
@@ -55,7 +56,7 @@ module _ (keys : ℕ → Option Bytes) (nodes mid wide : ℕ → Option Node) (r
   pub shape_shrunk : {P : ℕ} → (keys' : ℕ → Option Bytes) (new : ℕ → Option Node) (root' : Option Child) (h : IsLeafOf P keys nodes root above n b i) → 2 < length h.node.edges → Loses keys keys' i h.key → TurnsTo wide new root root' above (Inner m) → Shape P keys' new root'
   shape_shrunk keys' new root' h more loses turns =
       let s1 : Shape _ keys' mid root = shape_dropped keys keys' nodes root n i b h.key h.shape loses h.node h.is h.low mid drops more in
-      (node_moved keys' mid wide new root root' n m above s1 ren (leads_dropped above h.shape h.leads) turns).0
+      (node_moved keys' mid wide new root root' n m s1 ren above (leads_dropped above h.shape h.leads) turns).0
 
 -- ---- what the steps of a removal require
 

@@ -7,7 +7,85 @@ use Rattle.art_tree.specs.Calls.Pruning.{Loose, LeadsIn, IsNotLast}
 use Rattle.art_kinds.specs.Edges.{child_at}
 use Rattle.art_kinds.specs.declared.records.ids.Child.{Child}
 use Rattle.art_kinds.specs.declared.records.ids.Child.TheVariants.{Inner}
-use Rattle.blart_keys.proofs.Options.{is_some, some_of}
+use Rattle.blart_keys.proofs.Options.{is_some, some_of, same_some}
+use Rattle.art_tree.proofs.Invariant.Prefixes.{live_after}
+
+-- ---- a node that is no longer fresh
+
+abbrev less : (ℕ → Bool) → ℕ → ℕ → Bool
+less fresh n j = cond (eqb j n) false (fresh j)
+
+less_from : (fresh : ℕ → Bool) (n j : ℕ) → less fresh n j ≡ true → (fresh j ≡ true) × (j ≢ n)
+less_from fresh n j f = elim (eqb_tells j n) [
+  | inl e ↦ absurd (false≢true (sym (ap (λ t. cond t false (fresh j)) e.0) ∙ f))
+  | inr e ↦ (sym (ap (λ t. cond t false (fresh j)) e.0) ∙ f, e.1)
+]
+
+less_to : (fresh : ℕ → Bool) (n j : ℕ) → j ≢ n → fresh j ≡ true → less fresh n j ≡ true
+less_to fresh n j off f = elim (eqb_tells j n) [ inl e ↦ absurd (off e.1) | inr e ↦ ap (λ t. cond t false (fresh j)) e.0 ∙ f ]
+
+-- ---- the edge of the node n by the byte b is redirected
+
+module _ {old new : ℕ → Option Node} {n b : ℕ} {to : Child} (red : Redirects old new n b to) where
+  -- what a node was before
+  record Was (m : ℕ) (y : Node) : Type 0 where
+    pub node : Node
+    pub is : old m ≡ Some node
+    pub depth : y.depth ≡ node.depth
+    pub long : length y.edges ≡ length node.edges
+    pub rest : (e : ℕ) → (m ≡ n → e ≢ b) → child_at y.edges e ≡ child_at node.edges e
+    pub had : IsSome (child_at red.was.edges b) → (e : ℕ) → IsSome (child_at y.edges e) → IsSome (child_at node.edges e)
+
+  was_node : (m : ℕ) (y : Node) → new m ≡ Some y → Was m y
+  was_node m y is = elim (eqb_tells m n) [
+    | inl h ↦
+        let f : new n ≡ Some y = ap new (sym h.1) ∙ is in
+        let g : new n ≡ Some red.is = red.is_is in
+        let same : y ≡ red.is = cc in
+        record {
+          node = red.was;
+          is = ap old h.1 ∙ red.was_is;
+          depth = ap (λ (z : Node). z.depth) same ∙ red.depth;
+          long = ap (λ (z : Node). length z.edges) same ∙ red.same_length;
+          rest = λ e far. ap (λ (z : Node). child_at z.edges e) same ∙ red.rest e (far h.1);
+          had = λ some e k. elim (eqb_tells e b) [
+            | inl t ↦ subst (λ (z : ℕ). IsSome (child_at red.was.edges z)) (sym t.1) some
+            | inr t ↦ same_some (child_at y.edges e) (child_at red.was.edges e) (ap (λ (z : Node). child_at z.edges e) same ∙ red.rest e t.1) k
+          ];
+        }
+    | inr h ↦ record { node = y; is = sym (red.others m h.1) ∙ is; depth = refl; long = refl; rest = λ e far. refl; had = λ some e k. k }
+  ]
+
+  lives_on : (m : ℕ) → IsSome (old m) → IsSome (new m)
+  lives_on = live_after old new n red.was red.is red.was_is red.is_is red.others
+
+  -- an edge is the redirected one, or led to the same node before
+  led : (m e x : ℕ) → LeadsIn new m e x → ((m ≡ n) × (e ≡ b) × (to ≡ Inner x)) ⊎ (LeadsIn old m e x × (m ≡ n → e ≢ b))
+  led m e x l =
+      let w = was_node m l.0 l.1 in
+      let stays : (m ≡ n → e ≢ b) → LeadsIn old m e x × (m ≡ n → e ≢ b) = λ far. ((w.node, w.is, sym (w.rest e far) ∙ l.2), far) in
+      elim (eqb_tells m n) [
+        | inl h ↦ elim (eqb_tells e b) [
+          | inl t ↦
+              let f : new n ≡ Some l.0 = ap new (sym h.1) ∙ l.1 in
+              let g : new n ≡ Some red.is = red.is_is in
+              let same : l.0 ≡ red.is = cc in
+              let z : Some to ≡ Some (Inner x) = sym red.now ∙ ap (child_at red.is.edges) (sym t.1) ∙ ap (λ (y : Node). child_at y.edges e) (sym same) ∙ l.2 in
+              inl (h.1, t.1, cc)
+          | inr t ↦ inr (stays (λ _. t.1))
+        ]
+        | inr h ↦ inr (stays (λ k. absurd (h.1 k)))
+      ]
+
+  -- each other old edge is there
+  leads_on : (m e x : ℕ) → LeadsIn old m e x → (m ≡ n → e ≢ b) → LeadsIn new m e x
+  leads_on m e x l far =
+      let y = some_of (new m) (lives_on m (is_some (old m) l.0 l.1)) in
+      let w = was_node m y.0 y.1 in
+      let f : old m ≡ Some w.node = w.is in
+      let g : old m ≡ Some l.0 = l.1 in
+      let same : w.node ≡ l.0 = cc in
+      (y.0, y.1, w.rest e far ∙ ap (λ (z : Node). child_at z.edges e) same ∙ l.2)
 
 module _ (goes : ℕ → Bool) (before nodes nodes' : ℕ → Option Node) (head : ℕ) (s : Loose goes before nodes head) where
   off_head : (j : ℕ) → goes j ≡ false → j ≢ head
@@ -52,21 +130,6 @@ module _ (goes : ℕ → Bool) (before nodes nodes' : ℕ → Option Node) (head
     next_other : x0 ≢ head
     next_other e = s.headless head b0 s.own (subst (λ (n : ℕ). LeadsIn nodes head b0 n) e to_next)
 
-    abbrev less_fresh : ℕ → Bool
-    less_fresh n = cond (eqb n x0) false (s.fresh n)
-
-    fresh_was : (n : ℕ) → less_fresh n ≡ true → s.fresh n ≡ true
-    fresh_was n f = elim (eqb_tells n x0) [
-      | inl e ↦ absurd (false≢true (sym (ap (λ t. cond t false (s.fresh n)) e.0) ∙ f))
-      | inr e ↦ sym (ap (λ t. cond t false (s.fresh n)) e.0) ∙ f
-    ]
-
-    fresh_still : (n : ℕ) → n ≢ x0 → s.fresh n ≡ true → less_fresh n ≡ true
-    fresh_still n off f = elim (eqb_tells n x0) [
-      | inl e ↦ absurd (off e.1)
-      | inr e ↦ ap (λ t. cond t false (s.fresh n)) e.0 ∙ f
-    ]
-
     off_gone : (m : ℕ) (y : Node) → nodes' m ≡ Some y → m ≢ head
     off_gone m y is e = let f : nodes' head ≡ Some y = ap nodes' (sym e) ∙ is in let g : nodes' head ≡ None = frees.gone in let z : None ≡ Some y = sym g ∙ f in cc
 
@@ -81,7 +144,7 @@ module _ (goes : ℕ → Bool) (before nodes nodes' : ℕ → Option Node) (head
 
     pub head_gone : Loose goes before nodes' x0
     head_gone = record {
-      fresh = less_fresh;
+      fresh = less s.fresh x0;
       rank = s.rank;
       kept = λ j f. frees.others j (off_head j f) ∙ s.kept j f;
       live = still x0 next_other (s.down head b0 x0 s.own to_next).0;
@@ -108,9 +171,9 @@ module _ (goes : ℕ → Bool) (before nodes nodes' : ℕ → Option Node) (head
             ]
           ];
       deeper = λ m b x y z g is low xz way.
-          let way' : (s.fresh m ≡ true) ⊎ IsNotLast y.edges b = elim way [ inl f ↦ inl (fresh_was m f) | inr d ↦ inr d ] in
+          let way' : (s.fresh m ≡ true) ⊎ IsNotLast y.edges b = elim way [ inl f ↦ inl (less_from s.fresh x0 m f).0 | inr d ↦ inr d ] in
           let r = s.deeper m b x y z g (stood m y is) low (stood x z xz) way' in
-          (fresh_still x (not_next m b x g (y, is, low)) r.0, r.1);
+          (less_to s.fresh x0 x (not_next m b x g (y, is, low)) r.0, r.1);
     }
 
   -- ---- a child is rotated above the head: they exchange places, and the head gets its last child
@@ -134,103 +197,41 @@ module _ (goes : ℕ → Bool) (before nodes nodes' : ℕ → Option Node) (head
     head_now : nodes' head ≡ Some turns.is
     head_now = raises.others head (λ e. child_off (sym e)) ∙ turns.is_is
 
+    was_child : (m : ℕ) (y : Node) → m ≡ c → nodes m ≡ Some y → y ≡ raises.was
+    was_child m y e is = let f : nodes c ≡ Some y = ap nodes (sym e) ∙ is in let g : nodes c ≡ Some raises.was = child_was in cc
+
+    was_head : (m : ℕ) (y : Node) → m ≡ head → nodes m ≡ Some y → y ≡ turns.was
+    was_head m y e is = let f : nodes head ≡ Some y = ap nodes (sym e) ∙ is in let g : nodes head ≡ Some turns.was = turns.was_is in cc
+
     -- the change of a node
-    turned : (m : ℕ) (y' : Node) → nodes' m ≡ Some y' → (y : Node) × (nodes m ≡ Some y) × (y'.depth ≡ y.depth) × (length y'.edges ≡ length y.edges)
-        × ((b : ℕ) → (m ≡ c → b ≢ bl) → (m ≡ head → b ≢ b0) → child_at y'.edges b ≡ child_at y.edges b) × (m ≡ c → y ≡ raises.was) × (m ≡ head → y ≡ turns.was)
-    turned m y' is = elim (eqb_tells m c) [
-      | inl e ↦
-          let f : nodes' c ≡ Some y' = ap nodes' (sym e.1) ∙ is in
-          let g : nodes' c ≡ Some raises.is = raises.is_is in
-          let same : y' ≡ raises.is = cc in (
-            raises.was,
-            ap nodes e.1 ∙ child_was,
-            ap (λ (y : Node). y.depth) same ∙ raises.depth,
-            ap (λ (y : Node). length y.edges) same ∙ raises.same_length,
-            λ b far near. ap (λ (y : Node). child_at y.edges b) same ∙ raises.rest b (far e.1),
-            λ _. refl,
-            λ h. absurd (child_off (sym e.1 ∙ h)),
-          )
-      | inr e ↦ elim (eqb_tells m head) [
-        | inl h ↦
-            let f : nodes' head ≡ Some y' = ap nodes' (sym h.1) ∙ is in
-            let g : nodes' head ≡ Some turns.is = head_now in
-            let same : y' ≡ turns.is = cc in (
-              turns.was,
-              ap nodes h.1 ∙ turns.was_is,
-              ap (λ (y : Node). y.depth) same ∙ turns.depth,
-              ap (λ (y : Node). length y.edges) same ∙ turns.same_length,
-              λ b far near. ap (λ (y : Node). child_at y.edges b) same ∙ turns.rest b (near h.1),
-              λ k. absurd (e.1 k),
-              λ _. refl,
-            )
-        | inr h ↦ (
-          y',
-          sym (turns.others m h.1) ∙ sym (raises.others m e.1) ∙ is,
-          refl,
-          refl,
-          λ b far near. refl,
-          λ k. absurd (e.1 k),
-          λ k. absurd (h.1 k),
-        )
-      ]
-    ]
+    turned : (m : ℕ) (y' : Node) → nodes' m ≡ Some y' → (y : Node) × (nodes m ≡ Some y) × (y'.depth ≡ y.depth) × (length y'.edges ≡ length y.edges) × ((e : ℕ) → IsSome (child_at y'.edges e) → IsSome (child_at y.edges e))
+    turned m y' is =
+        let v = was_node raises m y' is in
+        let w = was_node turns m v.node v.is in
+        (w.node, w.is, v.depth ∙ w.depth, v.long ∙ w.long, λ e h. w.had (is_some (child_at turns.was.edges b0) (Inner c) high) e (v.had (is_some (child_at raises.was.edges bl) d low) e h))
 
     live_on : (m : ℕ) → IsSome (nodes m) → IsSome (nodes' m)
-    live_on m h = elim (eqb_tells m c) [
-      | inl e ↦ subst (λ (n : ℕ). IsSome (nodes' n)) (sym e.1) (is_some (nodes' c) raises.is raises.is_is)
-      | inr e ↦ elim (eqb_tells m head) [
-        | inl k ↦ subst (λ (n : ℕ). IsSome (nodes' n)) (sym k.1) (is_some (nodes' head) turns.is head_now)
-        | inr k ↦ let x = some_of (nodes m) h in is_some (nodes' m) x.0 (raises.others m e.1 ∙ turns.others m k.1 ∙ x.1)
-      ]
-    ]
+    live_on m h = lives_on raises m (lives_on turns m h)
 
     -- an edge leads from the child to the head, from the head to the old last child, or as before
     came : (m b x : ℕ) → LeadsIn nodes' m b x → ((m ≡ c) × (b ≡ bl) × (x ≡ head)) ⊎ (((m ≡ head) × (b ≡ b0) × LeadsIn nodes c bl x) ⊎ (LeadsIn nodes m b x × (m ≡ c → b ≢ bl) × (m ≡ head → b ≢ b0)))
-    came m b x l =
-        let w = turned m l.0 l.1 in
-        elim (eqb_tells m c) [
-          | inl e ↦ elim (eqb_tells b bl) [
-            | inl t ↦
-                let f : nodes' c ≡ Some l.0 = ap nodes' (sym e.1) ∙ l.1 in
-                let g : nodes' c ≡ Some raises.is = raises.is_is in
-                let same : l.0 ≡ raises.is = cc in
-                let z : Some (Inner x) ≡ Some (Inner head) = sym l.2 ∙ ap (λ (y : Node). child_at y.edges b) same ∙ ap (child_at raises.is.edges) t.1 ∙ raises.now in
-                inl (e.1, t.1, cc)
-            | inr t ↦ let far : (m ≡ c → b ≢ bl) = λ _. t.1 in let near : (m ≡ head → b ≢ b0) = λ h. absurd (child_off (sym e.1 ∙ h)) in inr (inr ((w.0, w.1, sym (w.4 b far near) ∙ l.2), far, near))
-          ]
-          | inr e ↦ elim (eqb_tells m head) [
-            | inl h ↦ elim (eqb_tells b b0) [
-              | inl t ↦
-                  let f : nodes' head ≡ Some l.0 = ap nodes' (sym h.1) ∙ l.1 in
-                  let g : nodes' head ≡ Some turns.is = head_now in
-                  let same : l.0 ≡ turns.is = cc in
-                  let z : Some d ≡ Some (Inner x) = sym turns.now ∙ sym (ap (λ (y : Node). child_at y.edges b) same ∙ ap (child_at turns.is.edges) t.1) ∙ l.2 in
-                  inr (inl (h.1, t.1, (raises.was, child_was, low ∙ z)))
-              | inr t ↦ let far : (m ≡ c → b ≢ bl) = λ k. absurd (e.1 k) in let near : (m ≡ head → b ≢ b0) = λ _. t.1 in inr (inr ((w.0, w.1, sym (w.4 b far near) ∙ l.2), far, near))
-            ]
-            | inr h ↦ let far : (m ≡ c → b ≢ bl) = λ k. absurd (e.1 k) in let near : (m ≡ head → b ≢ b0) = λ k. absurd (h.1 k) in inr (inr ((w.0, w.1, sym (w.4 b far near) ∙ l.2), far, near))
-          ]
-        ]
+    came m b x l = elim (led raises m b x l) [
+      | inl h ↦ (let e : Inner head ≡ Inner x = h.2 in inl (h.0, h.1, cc))
+      | inr u ↦ elim (led turns m b x u.0) [
+        | inl h ↦ inr (inl (h.0, h.1, (raises.was, child_was, low ∙ ap (λ (z : Child). Some z) h.2)))
+        | inr v ↦ inr (inr (v.0, u.1, v.1))
+      ]
+    ]
 
     -- and each other old edge is there
     gone_to : (m b x : ℕ) → LeadsIn nodes m b x → (m ≡ c → b ≢ bl) → (m ≡ head → b ≢ b0) → LeadsIn nodes' m b x
-    gone_to m b x l far near =
-        let y = some_of (nodes' m) (live_on m (is_some (nodes m) l.0 l.1)) in
-        let w = turned m y.0 y.1 in
-        let f : nodes m ≡ Some w.0 = w.1 in
-        let g : nodes m ≡ Some l.0 = l.1 in
-        let same : w.0 ≡ l.0 = cc in
-        (y.0, y.1, w.4 b far near ∙ ap (λ (y : Node). child_at y.edges b) same ∙ l.2)
+    gone_to m b x l far near = leads_on raises m b x (leads_on turns m b x l near) far
 
     head_under : LeadsIn nodes' c bl head
     head_under = (raises.is, raises.is_is, raises.now)
 
     fell : (x : ℕ) → LeadsIn nodes c bl x → LeadsIn nodes' head b0 x
-    fell x l =
-        let f : nodes c ≡ Some l.0 = l.1 in
-        let g : nodes c ≡ Some raises.was = child_was in
-        let same : l.0 ≡ raises.was = cc in
-        (turns.is, head_now, turns.now ∙ sym low ∙ sym (ap (λ (y : Node). child_at y.edges bl) same) ∙ l.2)
+    fell x l = (turns.is, head_now, turns.now ∙ sym low ∙ sym (ap (λ (y : Node). child_at y.edges bl) (was_child c l.0 refl l.1)) ∙ l.2)
 
     -- only one old edge leads to the child
     not_child : (m b x : ℕ) → goes m ≡ true → LeadsIn nodes m b x → (m ≡ head → b ≢ b0) → x ≢ c
@@ -258,18 +259,6 @@ module _ (goes : ℕ → Bool) (before nodes nodes' : ℕ → Option Node) (head
           | inl e ↦ let z : new_rank m ≡ 0 = ap (λ (n : ℕ). new_rank n) e.1 ∙ rank_child in omega arith
           | inr e ↦ let z : new_rank m ≡ suc (s.rank m) = rank_other m e.1 in omega arith
         ]
-
-    abbrev still_fresh : ℕ → Bool
-    still_fresh n = cond (eqb n c) false (s.fresh n)
-
-    fresh_from : (n : ℕ) → still_fresh n ≡ true → (s.fresh n ≡ true) × (n ≢ c)
-    fresh_from n f = elim (eqb_tells n c) [
-      | inl e ↦ absurd (false≢true (sym (ap (λ t. cond t false (s.fresh n)) e.0) ∙ f))
-      | inr e ↦ (sym (ap (λ t. cond t false (s.fresh n)) e.0) ∙ f, e.1)
-    ]
-
-    fresh_to : (n : ℕ) → n ≢ c → s.fresh n ≡ true → still_fresh n ≡ true
-    fresh_to n off f = elim (eqb_tells n c) [ inl e ↦ absurd (off e.1) | inr e ↦ ap (λ t. cond t false (s.fresh n)) e.0 ∙ f ]
 
     down_now : (m b x : ℕ) → goes m ≡ true → LeadsIn nodes' m b x → IsSome (nodes' x) × (goes x ≡ true) × (new_rank m < new_rank x)
     down_now m b x g l = elim (came m b x l) [
@@ -342,10 +331,7 @@ module _ (goes : ℕ → Bool) (before nodes nodes' : ℕ → Option Node) (head
                   | inl k ↦ elim (eqb_tells p.1 b0) [
                     | inl t ↦
                         let l : LeadsIn nodes head b0 n = subst (λ (z : ℕ). LeadsIn nodes head z n) t.1 (subst (λ (z : ℕ). LeadsIn nodes z p.1 n) k.1 p.3) in
-                        let f : nodes head ≡ Some l.0 = l.1 in
-                        let q : nodes head ≡ Some turns.was = turns.was_is in
-                        let same : l.0 ≡ turns.was = cc in
-                        let z : Some (Inner n) ≡ Some (Inner c) = sym (ap (λ (y : Node). child_at y.edges b0) (sym same) ∙ l.2) ∙ high in
+                        let z : Some (Inner n) ≡ Some (Inner c) = sym (ap (λ (y : Node). child_at y.edges b0) (sym (was_head head l.0 refl l.1)) ∙ l.2) ∙ high in
                         absurd (off.1 cc)
                     | inr t ↦ (p.0, p.1, p.2, gone_to p.0 p.1 n p.3 (λ z. absurd (e.1 z)) (λ _. t.1))
                   ]
@@ -356,34 +342,15 @@ module _ (goes : ℕ → Bool) (before nodes nodes' : ℕ → Option Node) (head
       ]
     ]
 
-    -- each byte that has an edge had one before
-    there_was : (m e : ℕ) (y : Node) → (is : nodes' m ≡ Some y) → IsSome (child_at y.edges e) → IsSome (child_at (turned m y is).0.edges e)
-    there_was m e y is h =
-        let w = turned m y is in
-        elim (eqb_tells m c) [
-          | inl k ↦ elim (eqb_tells e bl) [
-            | inl t ↦ subst (λ (z : Node). IsSome (child_at z.edges e)) (sym (w.5 k.1)) (is_some (child_at raises.was.edges e) d (ap (child_at raises.was.edges) t.1 ∙ low))
-            | inr t ↦ let x = some_of (child_at y.edges e) h in is_some (child_at w.0.edges e) x.0 (sym (w.4 e (λ _. t.1) (λ z. absurd (child_off (sym k.1 ∙ z)))) ∙ x.1)
-          ]
-          | inr k ↦ elim (eqb_tells m head) [
-            | inl q ↦ elim (eqb_tells e b0) [
-              | inl t ↦ subst (λ (z : Node). IsSome (child_at z.edges e)) (sym (w.6 q.1)) (is_some (child_at turns.was.edges e) (Inner c) (ap (child_at turns.was.edges) t.1 ∙ high))
-              | inr t ↦ let x = some_of (child_at y.edges e) h in is_some (child_at w.0.edges e) x.0 (sym (w.4 e (λ z. absurd (k.1 z)) (λ _. t.1)) ∙ x.1)
-            ]
-            | inr q ↦ let x = some_of (child_at y.edges e) h in is_some (child_at w.0.edges e) x.0 (sym (w.4 e (λ z. absurd (k.1 z)) (λ z. absurd (q.1 z))) ∙ x.1)
-          ]
-        ]
-
-    deeper_now : (m b x : ℕ) (y z : Node) → goes m ≡ true → nodes' m ≡ Some y → child_at y.edges b ≡ Some (Inner x) → nodes' x ≡ Some z → (still_fresh m ≡ true) ⊎ IsNotLast y.edges b → (still_fresh x ≡ true) × (y.depth < z.depth)
+    deeper_now : (m b x : ℕ) (y z : Node) → goes m ≡ true → nodes' m ≡ Some y → child_at y.edges b ≡ Some (Inner x) → nodes' x ≡ Some z → (less s.fresh c m ≡ true) ⊎ IsNotLast y.edges b → (less s.fresh c x ≡ true) × (y.depth < z.depth)
     deeper_now m b x y z g is there xz way =
         let w = turned m y is in
         let v = turned x z xz in
         elim (came m b x (y, is, there)) [
           | inl k ↦ absurd (elim way [
-            | inl f ↦ (fresh_from m f).1 k.0
+            | inl f ↦ (less_from s.fresh c m f).1 k.0
             | inr q ↦
-                let h = there_was m q.0 y is q.2 in
-                let i : IsSome (child_at raises.was.edges q.0) = subst (λ (n : Node). IsSome (child_at n.edges q.0)) (w.5 k.0) h in
+                let i : IsSome (child_at raises.was.edges q.0) = subst (λ (n : Node). IsSome (child_at n.edges q.0)) (was_child m w.0 k.0 w.1) (w.4 q.0 q.2) in
                 let j = some_of (child_at raises.was.edges q.0) i in
                 let lt : b < q.0 = q.1 in
                 let at : b ≡ bl = k.1 in
@@ -393,18 +360,15 @@ module _ (goes : ℕ → Bool) (before nodes nodes' : ℕ → Option Node) (head
           ])
           | inr o ↦ elim o [
             | inl k ↦
-                let f : nodes c ≡ Some k.2.0 = k.2.1 in
-                let q : nodes c ≡ Some raises.was = child_was in
-                let same : k.2.0 ≡ raises.was = cc in
-                let l : child_at raises.was.edges bl ≡ Some (Inner x) = ap (λ (n : Node). child_at n.edges bl) (sym same) ∙ k.2.2 in
+                let l : child_at raises.was.edges bl ≡ Some (Inner x) = ap (λ (n : Node). child_at n.edges bl) (sym (was_child c k.2.0 refl k.2.1)) ∙ k.2.2 in
                 let r = s.deeper c bl x raises.was v.0 child_down.1 child_was l v.1 (inl child_fresh.0) in
                 let a : turns.was.depth < raises.was.depth = child_fresh.1 in
                 let a2 : raises.was.depth < v.0.depth = r.1 in
-                let e1 : y.depth ≡ turns.was.depth = w.2 ∙ ap (λ (n : Node). n.depth) (w.6 k.0) in
+                let e1 : y.depth ≡ turns.was.depth = w.2 ∙ ap (λ (n : Node). n.depth) (was_head m w.0 k.0 w.1) in
                 let e2 : z.depth ≡ v.0.depth = v.2 in
-                (fresh_to x (below_off x k.2) r.0, omega arith)
+                (less_to s.fresh c x (below_off x k.2) r.0, omega arith)
             | inr k ↦
-                let way' : (s.fresh m ≡ true) ⊎ IsNotLast w.0.edges b = elim way [ inl f ↦ inl (fresh_from m f).0 | inr q ↦ inr (q.0, q.1, there_was m q.0 y is q.2) ] in
+                let way' : (s.fresh m ≡ true) ⊎ IsNotLast w.0.edges b = elim way [ inl f ↦ inl (less_from s.fresh c m f).0 | inr q ↦ inr (q.0, q.1, w.4 q.0 q.2) ] in
                 let f : nodes m ≡ Some k.0.0 = k.0.1 in
                 let q : nodes m ≡ Some w.0 = w.1 in
                 let same : k.0.0 ≡ w.0 = cc in
@@ -413,13 +377,13 @@ module _ (goes : ℕ → Bool) (before nodes nodes' : ℕ → Option Node) (head
                 let a : w.0.depth < v.0.depth = r.1 in
                 let e1 : y.depth ≡ w.0.depth = w.2 in
                 let e2 : z.depth ≡ v.0.depth = v.2 in
-                (fresh_to x (not_child m b x g k.0 k.2) r.0, omega arith)
+                (less_to s.fresh c x (not_child m b x g k.0 k.2) r.0, omega arith)
           ]
         ]
 
     pub child_rotated : Loose goes before nodes' c
     child_rotated = record {
-      fresh = still_fresh;
+      fresh = less s.fresh c;
       rank = new_rank;
       kept = λ j f. (let far : j ≢ c = λ e. false≢true (sym f ∙ ap goes e ∙ child_down.1) in raises.others j far ∙ turns.others j (off_head j f) ∙ s.kept j f);
       live = live_on c child_down.0;

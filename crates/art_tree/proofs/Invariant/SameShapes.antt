@@ -35,11 +35,6 @@ renoded {P} keys nodes nodes' root s h =
       keeps = subst (λ (f : ℕ → Option Node). Keeps P f root s.front_of) p s.keeps;
     }
 
--- the fronts are unchanged
-pub renoded-front : {P : ℕ} → (keys : ℕ → Option Bytes) (nodes nodes' : ℕ → Option Node) (root : Option Child) (s : Shape P keys nodes root) (h : (j : ℕ) → nodes' j ≡ nodes j) (m : ℕ) → (renoded keys nodes nodes' root s h).front_of m ≡ s.front_of m
-unfolding renoded
-renoded-front keys nodes nodes' root s h m = refl
-
 -- with keys that are equal under each number
 pub rekeyed : {P : ℕ} → (keys keys' : ℕ → Option Bytes) (nodes : ℕ → Option Node) (root : Option Child) → Shape P keys nodes root → ((j : ℕ) → keys' j ≡ keys j) → Shape P keys' nodes root
 rekeyed keys keys' nodes root s h =
