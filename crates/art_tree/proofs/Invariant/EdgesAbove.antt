@@ -1,5 +1,5 @@
 -- The edge above a child, if the store changes.
-use Rattle.std.proofs.Common.{◌≡◌, ◌≢◌, ℕ, List, [], ◌∷◌, ◌++◌, refl, ap, sym, subst, inl, inr, Option, Some, None, ◌∙◌}
+use Rattle.std.proofs.Common.{◌≡◌, ◌≢◌, ℕ, List, [], ◌∷◌, ◌++◌, refl, ap, sym, subst, inl, inr, ◌⊎◌, Option, Some, None, IsSome, ◌∙◌}
 use Rattle.std.proofs.lemmas.List.{same_from_push}
 use Rattle.std.proofs.lemmas.Bool.Decides.{eqb_tells}
 use Rattle.art_tree.specs.Invariant.EdgesAbove.{LeadsTo, TurnsTo, AscendsAt, edge_front}
@@ -10,6 +10,7 @@ use Rattle.art_tree.specs.Invariant.Shape.{Shape}
 use Rattle.art_kinds.specs.declared.records.ids.Child.{Child}
 use Rattle.art_kinds.specs.declared.records.ids.Child.TheVariants.{Inner}
 use Rattle.art_kinds.specs.declared.records.ids.Edge.{Edge}
+use Rattle.blart_keys.proofs.Options.{is_some}
 use Rattle.art_tree.proofs.BeginsLemmas.{edge_some}
 use Rattle.art_tree.proofs.Invariant.OneEdge.{not_itself, kept_mid}
 
@@ -35,6 +36,31 @@ module _ {P : ℕ} (keys : ℕ → Option Bytes) (old new : ℕ → Option Node)
       let k : new p ≡ Some l.0 = kept_mid old new n m p l.0 r l.1 (not_itself keys old root s p b n l.0 l.1 l.2) in
       let same : l.0 ≡ x = cc in
       subst (λ (z : Node). Ascends z.edges) same (s.node p l.0 l.1).ascends
+
+-- the node of an edge is live
+pub leads_live : (nodes : ℕ → Option Node) (root : Option Child) (above : Option (ℕ × ℕ)) (c : Child) → LeadsTo nodes root above c → (e : ℕ × ℕ) → above ≡ Some e → IsSome (nodes e.0)
+leads_live nodes root None c l e is = absurd cc
+leads_live nodes root (Some d) c l e is = let z : d ≡ e = cc in subst (λ (w : ℕ × ℕ). IsSome (nodes w.0)) z (is_some (nodes d.0) l.0 l.1)
+
+-- the edge above the child is that of the root, which is redirected, or that of a node
+abbrev pub Hangs : (ℕ → Option Node) → Option Child → Option Child → Child → Child → Option (ℕ × ℕ) → Type 0
+Hangs nodes root root' c to above = ((above ≡ None) × (root ≡ Some c) × (root' ≡ Some to)) ⊎ ((e : ℕ × ℕ) × (above ≡ Some e) × IsSome (nodes e.0) × (root' ≡ root))
+
+pub above_cases : (nodes mid new : ℕ → Option Node) (root root' : Option Child) (above : Option (ℕ × ℕ)) (c to : Child) → LeadsTo nodes root above c → TurnsTo mid new root root' above to → Hangs nodes root root' c to above
+above_cases nodes mid new root root' None c to leads turns = inl (refl, leads, turns.1)
+above_cases nodes mid new root root' (Some e) c to leads turns = inr (e, refl, is_some (nodes e.0) leads.0 leads.1, turns.1)
+
+-- if an edge is redirected, each node but that of the edge is unchanged
+pub turned_off : (old new : ℕ → Option Node) (root root' : Option Child) (above : Option (ℕ × ℕ)) (to : Child) → TurnsTo old new root root' above to → (m : ℕ) → ((e : ℕ × ℕ) → above ≡ Some e → m ≢ e.0) → new m ≡ old m
+turned_off old new root root' None to turns m off = turns.0 m
+turned_off old new root root' (Some e) to turns m off = turns.0.others m (off e refl)
+
+-- and no node comes
+pub turned_free : (old new : ℕ → Option Node) (root root' : Option Child) (above : Option (ℕ × ℕ)) (to : Child) → TurnsTo old new root root' above to → (m : ℕ) → old m ≡ None → new m ≡ None
+turned_free old new root root' None to turns m e = turns.0 m ∙ e
+turned_free old new root root' (Some (p, b)) to turns m e =
+    let red : Redirects old new p b to = turns.0 in
+    red.others m (λ z. let f : old p ≡ None = ap old (sym z) ∙ e in let g : old p ≡ Some red.was = red.was_is in cc) ∙ e
 
 -- the change of an old node: the edge with the front g0 now leads to another child
 pub record Turns (x x' : Node) (f g0 : Bytes) (c0 c1 : Child) : Type 0 where

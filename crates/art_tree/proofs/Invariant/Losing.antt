@@ -14,22 +14,11 @@ use Rattle.art_kinds.specs.declared.records.ids.Child.{Child}
 use Rattle.art_kinds.specs.declared.records.ids.Child.TheVariants.{Leaf, Inner}
 use Rattle.art_tree.proofs.BeginsLemmas.{Begins-length, Begins-more, Begins-trans, Begins-next, Begins-linear, Begins-equal, Begins-edge_front, Bytes-cases, common-left, common-greatest, common_comm}
 use Rattle.art_tree.proofs.Invariant.Growing.{Parts-two, covers_above}
-use Rattle.art_tree.proofs.Invariant.EdgesAbove.{Turns, turned_node, turns_after}
+use Rattle.art_tree.proofs.Invariant.EdgesAbove.{Turns, turned_node, turned_free, turns_after, leads_live, Hangs, above_cases}
 use Rattle.art_tree.proofs.Invariant.OneEdge.{one_above}
-use Rattle.art_tree.proofs.Invariant.Prefixes.{keeps_changed, live_after, live_before, cut_node, cut_was, cut_leads, turned_prefix}
-use Rattle.art_tree.proofs.Invariant.Splitting.{Recut}
-use Rattle.art_tree.proofs.Invariant.Subtrees.{above_leaf, above_node}
+use Rattle.art_tree.proofs.Invariant.Prefixes.{keeps_changed, live_after, live_before, cut_node, cut_was, cut_leads, turned_prefix, Recut, recut_by}
+use Rattle.art_tree.proofs.Invariant.Subtrees.{above_leaf}
 use Rattle.blart_keys.proofs.Options.{is_some, some_of, not_some, same_some}
-
--- the node p, which had the child c1 and one other, is removed, and the edge to it now leads to c1
-pub record Merges (old new : ℕ → Option Node) (front_of : ℕ → Bytes) (root root' : Option Child) (g0 : Bytes) (c1 : Child) (was : Node) (p b b1 : ℕ) : Type 0 where
-  pub gone : new p ≡ None
-  pub high : child_at was.edges b1 ≡ Some c1
-  pub two : b ≢ b1
-  pub only : (c : ℕ) → IsSome (child_at was.edges c) → (c ≡ b) ⊎ (c ≡ b1)
-  pub above : ((g0 ≡ []) × (root ≡ Some (Inner p)) × (root' ≡ Some c1)) ⊎ ((m : ℕ) × (b : ℕ) × IsSome (old m) × (g0 ≡ front_of m ++ b ∷ []) × (root' ≡ root))
-  pub others : (m : ℕ) (x : Node) → m ≢ p → old m ≡ Some x → (x' : Node) × (new m ≡ Some x') × Turns x x' (front_of m) g0 (Inner p) c1
-  pub no_more : (m : ℕ) → old m ≡ None → new m ≡ None
 
 module _ {P : ℕ} (keys keys' : ℕ → Option Bytes) (nodes : ℕ → Option Node) (root : Option Child) (p i b : ℕ) (k : Bytes) (s : Shape P keys nodes root)
     (loses : Loses keys keys' i k) (was : Node) (was_is : nodes p ≡ Some was) (low : child_at was.edges b ≡ Some (Leaf i)) where
@@ -129,225 +118,15 @@ module _ {P : ℕ} (keys keys' : ℕ → Option Bytes) (nodes : ℕ → Option N
         differ = λ e. q.differ (sym u.4 ∙ e ∙ v.4);
       }
 
-  module _ (nodes' : ℕ → Option Node) (root' : Option Child) (g0 : Bytes) (c1 : Child) (b1 : ℕ) (merges : Merges nodes nodes' s.front_of root root' g0 c1 was p b b1) (covers0 : CoversNode keys nodes s.front_of g0 p)
-      (recut : Recut P nodes nodes' s.front_of g0 c1) (one : (a : Option (ℕ × ℕ)) (j : ℕ) → LeadsTo nodes root a (Inner j) → c1 ≡ Inner j → a ≡ Some (p, b1)) where
-    -- only one edge leads to the node p
-    one_edge : (m : ℕ) → IsSome (nodes m) → (c : ℕ) → CoversNode keys nodes s.front_of (s.front_of m ++ c ∷ []) p → s.front_of m ++ c ∷ [] ≡ g0
-    one_edge m live c cov =
-        let f : Bytes = s.front_of m in
-        let g : Bytes = f ++ c ∷ [] in
-        let gt : Begins g t = cov.front in
-        let g0t : Begins g0 t = covers0.front in
-        let a1 : length g ≤ length t = Begins-length g t gt in
-        let a2 : length g0 ≤ length t = Begins-length g0 t g0t in
-        let l1 : length g ≡ length f + 1 = length-append f (c ∷ []) in
-        let ft : Begins f t = Begins-edge_front f t c gt in
-        elim (cases_lt (length g0) (length g)) [
-          | inl lt ↦
-              let z : length t ≤ length f = Begins-length t f (above_node keys nodes root s m live g0 p covers0 (Begins-linear g0 f t g0t ft (omega arith))) in
-              absurd (omega arith)
-          | inr le ↦
-              elim merges.above [
-                | inl a ↦ let z : length g0 ≡ 0 = ap length a.0 in absurd (omega arith)
-                | inr a ↦
-                    let f0 : Bytes = s.front_of a.0 in
-                    let l2 : length g0 ≡ length f0 + 1 = ap length a.3 ∙ length-append f0 (a.1 ∷ []) in
-                    let f0t : Begins f0 t = Begins-edge_front f0 t a.1 (rw (← a.3) g0t) in
-                    elim (cases_lt (length g) (length g0)) [
-                      | inl lt ↦
-                          let z : length t ≤ length f0 = Begins-length t f0 (above_node keys nodes root s a.0 a.2 g p cov (Begins-linear g f0 t gt f0t (omega arith))) in
-                          absurd (omega arith)
-                      | inr same ↦ Begins-equal g g0 (Begins-linear g g0 t gt g0t le) same
-                    ]
-              ]
-        ]
-
-    live_kept : (m : ℕ) → m ≢ p → IsSome (nodes m) → IsSome (nodes' m)
-    live_kept m h live = let x = some_of (nodes m) live in let y = merges.others m x.0 h x.1 in is_some (nodes' m) y.0 y.1
-
-    node_kept : (g : Bytes) (m : ℕ) → m ≢ p → CoversNode keys nodes s.front_of g m → CoversNode keys' nodes' s.front_of g m
-    node_kept g m off c = record { live = live_kept m off c.live; front = c.front; only = λ j l e h. c.only j l (was_key j l e) h }
-
-    edge_kept : (m : ℕ) → IsSome (nodes m) → m ≢ p → (b' : ℕ) (c : Child) → s.front_of m ++ b' ∷ [] ≢ g0 → Covers keys nodes s.front_of (s.front_of m ++ b' ∷ []) c → Covers keys' nodes' s.front_of (s.front_of m ++ b' ∷ []) c
-    edge_kept m live off b' (Leaf j) far c =
-        elim (eqb_tells j i) [
-          | inl e ↦ absurd (off (one_leaf m live b' (subst (λ (j : ℕ). CoversLeaf keys (s.front_of m ++ b' ∷ []) j) e.1 c)))
-          | inr e ↦ leaf_kept _ j e.1 c
-        ]
-    edge_kept m live off b' (Inner m') far c =
-        elim (eqb_tells m' p) [
-          | inl e ↦ absurd (far (one_edge m live b' (subst (λ (m' : ℕ). CoversNode keys nodes s.front_of (s.front_of m ++ b' ∷ []) m') e.1 c)))
-          | inr e ↦ node_kept _ m' e.1 c
-        ]
-
-    -- a remaining key that begins with t continues with b1
-    left_p : (j : ℕ) (l : Bytes) → keys' j ≡ Some l → Begins t l → Begins (t ++ b1 ∷ []) l
-    left_p j l e h =
-        let old : keys j ≡ Some l = was_key j l e in
-        let m : Begins (t ++ next_byte t l ∷ []) l = Begins-more t l h (fits_p.longer j l old h) in
-        elim (merges.only (next_byte t l) (fits_p.edge j l old h)) [
-          | inl q ↦ absurd (not_gone j l e (leaf_i.only j l old (subst (λ (c : ℕ). Begins (t ++ c ∷ []) l) q m)))
-          | inr q ↦ subst (λ (c : ℕ). Begins (t ++ c ∷ []) l) q m
-        ]
-
-    raised : (c : Child) → Covers keys nodes s.front_of (t ++ b1 ∷ []) c → Covers keys' nodes' s.front_of g0 c
-    raised (Leaf j) c =
-        let off : j ≢ i = λ e. (
-        let f : keys i ≡ Some c.key = rw (← e) c.is in
-        let f2 : keys i ≡ Some k = loses.was in
-        let h : c.key ≡ k = cc in
-        let u : next_byte t k ≡ b1 = Begins-next t k b1 (rw (← h) c.front) in
-        let v : next_byte t k ≡ b = Begins-next t k b k_front in
-        merges.two (sym v ∙ u)) in
-        record {
-          key = c.key;
-          is = kept j c.key c.is off;
-          front = Begins-trans g0 t c.key covers0.front (Begins-edge_front t c.key b1 c.front);
-          only = λ j' l e h. c.only j' l (was_key j' l e) (left_p j' l e (covers0.only j' l (was_key j' l e) h));
-        }
-    raised (Inner m) c =
-        let off : m ≢ p = λ e. (
-        let a : length (t ++ b1 ∷ []) ≤ length (s.front_of m) = Begins-length _ _ c.front in
-        let z : length (s.front_of m) ≡ length t = ap (λ m. length (s.front_of m)) e in
-        let l : length (t ++ b1 ∷ []) ≡ length t + 1 = length-append t (b1 ∷ []) in
-        omega arith) in
-        record {
-          live = live_kept m off c.live;
-          front = Begins-trans g0 t (s.front_of m) covers0.front (Begins-edge_front t (s.front_of m) b1 c.front);
-          only = λ j l e h. c.only j l (was_key j l e) (left_p j l e (covers0.only j l (was_key j l e) h));
-        }
-
-    fits_left : (m : ℕ) (x x' : Node) → nodes m ≡ Some x → m ≢ p → Turns x x' (s.front_of m) g0 (Inner p) c1 → NodeFits keys' nodes' s.front_of (s.front_of m) x'
-    fits_left m x x' is off r =
-        let g : Bytes = s.front_of m in
-        let f : NodeFits keys nodes s.front_of g x = s.node m x is in
-        let live : IsSome (nodes m) = is_some (nodes m) x is in
-        record {
-          depth = r.depth ∙ f.depth;
-          below = λ b' c e.
-              elim (Bytes-cases (g ++ b' ∷ []) g0) [
-                | inl at ↦
-                    let a : child_at x'.edges b' ≡ Some c1 = r.now b' at in
-                    let h : c ≡ c1 = cc in
-                    rw (at, h) (raised c1 (fits_p.below b1 c1 merges.high))
-                | inr far ↦
-                    let a : child_at x.edges b' ≡ Some c = sym (r.rest b' far) ∙ e in
-                    edge_kept m live off b' c far (f.below b' c a)
-              ];
-          longer = λ j l e h. f.longer j l (was_key j l e) h;
-          edge = λ j l e h.
-              let y : IsSome (child_at x.edges (next_byte g l)) = f.edge j l (was_key j l e) h in
-              elim (Bytes-cases (g ++ next_byte g l ∷ []) g0) [
-                | inl at ↦ is_some (child_at x'.edges (next_byte g l)) c1 (r.now (next_byte g l) at)
-                | inr far ↦ let P : Option Child → Type 0 = λ o. IsSome o in subst P (sym (r.rest (next_byte g l) far)) y
-              ];
-          parts = parts_left m x is off;
-          ascends = r.ascends f.ascends;
-        }
-
-    was_live : (m : ℕ) (x : Node) → nodes' m ≡ Some x → (o : Option Node) → nodes m ≡ o → (w : Node) × (nodes m ≡ Some w)
-    was_live m x is None e = let h : nodes' m ≡ None = merges.no_more m e in absurd cc
-    was_live m x is (Some w) e = (w, e)
-
-    not_p : (m : ℕ) (x : Node) → nodes' m ≡ Some x → m ≢ p
-    not_p m x is e = let f : nodes' p ≡ Some x = rw (← e) is in let g : nodes' p ≡ None = merges.gone in cc
-
-    node_fits : (m : ℕ) (x : Node) → nodes' m ≡ Some x → NodeFits keys' nodes' s.front_of (s.front_of m) x
-    node_fits m x is =
-        let off : m ≢ p = not_p m x is in
-        let w = was_live m x is (nodes m) refl in
-        let y = merges.others m w.0 off w.1 in
-        let a : nodes' m ≡ Some y.0 = y.1 in
-        let h : y.0 ≡ x = cc in
-        subst (λ (x : Node). NodeFits keys' nodes' s.front_of (s.front_of m) x) h (fits_left m w.0 y.0 w.1 off y.2)
-
-    joined_left : (a c : ℕ) (x y : Bytes) → keys' a ≡ Some x → keys' c ≡ Some y → a ≢ c → (m : ℕ) × IsSome (nodes' m) × (s.front_of m ≡ common x y)
-    joined_left a c x y ax cy apart =
-        let r = s.joined a c x y (was_key a x ax) (was_key c y cy) apart in
-        let off : r.0 ≢ p = λ e. (
-        let z : t ≡ common x y = ap s.front_of (sym e) ∙ r.2 in
-        let tx : Begins t x = rw z (common-left x y) in
-        let ty : Begins t y = rw (z, common_comm x y) (common-left y x) in
-        let h : Begins (t ++ b1 ∷ []) (common x y) = common-greatest (t ++ b1 ∷ []) x y (left_p a x ax tx) (left_p c y cy ty) in
-        let l1 : length (t ++ b1 ∷ []) ≤ length (common x y) = Begins-length _ _ h in
-        let l2 : length (t ++ b1 ∷ []) ≡ length t + 1 = length-append t (b1 ∷ []) in
-        let l3 : length t ≡ length (common x y) = ap length z in
-        omega arith) in
-        (r.0, live_kept r.0 off r.1, r.2)
-
-    -- the root, if it was not p
-    top_kept : (r : Option Child) → root ≡ r → (m : ℕ) (c : ℕ) → IsSome (nodes m) → g0 ≡ s.front_of m ++ c ∷ [] → RootFits keys' nodes' s.front_of r
-    top_kept None e m c live at = λ j.
-        let h : RootFits keys nodes s.front_of None = subst (λ (r : Option Child). RootFits keys nodes s.front_of r) e s.top in
-        let a : keys i ≡ None = h i in
-        let f : keys i ≡ Some k = loses.was in
-        absurd cc
-    top_kept (Some (Leaf j)) e m c live at =
-        let h : CoversLeaf keys [] j = subst (λ (r : Option Child). RootFits keys nodes s.front_of r) e s.top in
-        absurd (above_leaf keys nodes root s p live_p [] j h tt)
-    top_kept (Some (Inner n)) e m c live at =
-        let h : CoversNode keys nodes s.front_of [] n = subst (λ (r : Option Child). RootFits keys nodes s.front_of r) e s.top in
-        let off : n ≢ p = λ z. (
-        let cov : CoversNode keys nodes s.front_of [] p = subst (λ (n : ℕ). CoversNode keys nodes s.front_of [] n) z h in
-        let l1 : length t ≤ length (s.front_of m) = Begins-length t (s.front_of m) (above_node keys nodes root s m live [] p cov tt) in
-        let l2 : length g0 ≡ length (s.front_of m) + 1 = ap length at ∙ length-append (s.front_of m) (c ∷ []) in
-        let l3 : length g0 ≤ length t = Begins-length g0 t covers0.front in
-        omega arith) in
-        node_kept [] n off h
-
-    top_fits : RootFits keys' nodes' s.front_of root'
-    top_fits =
-        elim merges.above [
-          | inl a ↦ rw a.2 (subst (λ (g : Bytes). Covers keys' nodes' s.front_of g c1) a.0 (raised c1 (fits_p.below b1 c1 merges.high)))
-          | inr a ↦ rw a.4 (top_kept root refl a.0 a.1 a.2 a.3)
-        ]
-
-    -- the child that moved up keeps the bytes that its front has after the edge above
-    kept_up : (g : Bytes) (j : ℕ) (x' : Node) → c1 ≡ Inner j → g ≡ g0 → nodes' j ≡ Some x' → x'.prefix ≡ take P (drop (length g) (s.front_of j))
-    kept_up g j x' e same is =
-        let w = was_live j x' is (nodes j) refl in
-        recut.own j w.0 x' w.1 is e ∙ ap (λ (z : Bytes). take P (drop (length z) (s.front_of j))) (sym same)
-
-    -- and each other node keeps its prefix
-    kept_stays : (a : Option (ℕ × ℕ)) (j : ℕ) (x' : Node) → LeadsTo nodes root a (Inner j) → (a ≡ Some (p, b1) → ⊥) → nodes' j ≡ Some x' → x'.prefix ≡ kept_prefix P s.front_of a j
-    kept_stays a j x' l far is =
-        let w = was_live j x' is (nodes j) refl in
-        recut.others j w.0 x' w.1 is (λ z. far (one a j l z)) ∙ s.keeps a j w.0 l w.1
-
-    kept_merged : Keeps P nodes' root' s.front_of
-    kept_merged None j x' l is =
-        elim merges.above [
-          | inl a ↦ kept_up [] j x' (let e : Some c1 ≡ Some (Inner j) = sym a.2 ∙ l in cc) (sym a.0) is
-          | inr a ↦ kept_stays None j x' (sym a.4 ∙ l) (λ e. absurd cc) is
-        ]
-    kept_merged (Some (q, c)) j x' l is =
-        let off : q ≢ p = not_p q l.0 l.1 in
-        let w = was_live q l.0 l.1 (nodes q) refl in
-        let y = merges.others q w.0 off w.1 in
-        let f : nodes' q ≡ Some y.0 = y.1 in
-        let g : nodes' q ≡ Some l.0 = l.1 in
-        let z : l.0 ≡ y.0 = cc in
-        let there : child_at y.0.edges c ≡ Some (Inner j) = ap (λ (x : Node). child_at x.edges c) (sym z) ∙ l.2 in
-        elim (Bytes-cases (s.front_of q ++ c ∷ []) g0) [
-          | inl at ↦ kept_up (s.front_of q ++ c ∷ []) j x' (let e : child_at y.0.edges c ≡ Some c1 = y.2.now c at in cc) at is
-          | inr far ↦ kept_stays (Some (q, c)) j x' (w.0, w.1, sym (y.2.rest c far) ∙ there) (λ e. off (let h : (q, c) ≡ (p, b1) = cc in ap (λ (w : ℕ × ℕ). w.0) h)) is
-        ]
-
-    -- the tree with one node less
-    pub shape_merged : Shape P keys' nodes' root'
-    shape_merged = record {
-      front_of = s.front_of;
-      top = top_fits;
-      node = node_fits;
-      joined = joined_left;
-      apart = λ a c la lc e.
-          let x = some_of (nodes' a) la in
-          let w = was_live a x.0 x.1 (nodes a) refl in
-          let y = some_of (nodes' c) lc in
-          let v = was_live c y.0 y.1 (nodes c) refl in
-          s.apart a c (is_some (nodes a) w.0 w.1) (is_some (nodes c) v.0 v.1) e;
-      keeps = kept_merged;
-    }
+  -- the root covers the keys that are left, if its node does
+  top_left : (nodes' : ℕ → Option Node) → ((n : ℕ) → root ≡ Some (Inner n) → CoversNode keys nodes s.front_of [] n → CoversNode keys' nodes' s.front_of [] n) → (r : Option Child) → root ≡ r → RootFits keys' nodes' s.front_of r
+  top_left nodes' covered None e = λ j.
+      let h : RootFits keys nodes s.front_of None = subst (λ (r : Option Child). RootFits keys nodes s.front_of r) e s.top in
+      let a : keys i ≡ None = h i in
+      let f : keys i ≡ Some k = loses.was in
+      absurd cc
+  top_left nodes' covered (Some (Leaf j)) e = absurd (above_leaf keys nodes root s p live_p [] j (subst (λ (r : Option Child). RootFits keys nodes s.front_of r) e s.top) tt)
+  top_left nodes' covered (Some (Inner n)) e = covered n e (subst (λ (r : Option Child). RootFits keys nodes s.front_of r) e s.top)
 
   -- ---- a node with three edges or more
 
@@ -460,20 +239,11 @@ module _ {P : ℕ} (keys keys' : ℕ → Option Bytes) (nodes : ℕ → Option N
           | inr e ↦ other_fits m x (sym (drops.others m e.1) ∙ is) e.1
         ]
 
-    top_stays : (r : Option Child) → root ≡ r → RootFits keys' nodes' s.front_of r
-    top_stays None e = λ j.
-        let h : RootFits keys nodes s.front_of None = subst (λ (r : Option Child). RootFits keys nodes s.front_of r) e s.top in
-        let a : keys i ≡ None = h i in
-        let f : keys i ≡ Some k = loses.was in
-        absurd cc
-    top_stays (Some (Leaf j)) e = absurd (above_leaf keys nodes root s p live_p [] j (subst (λ (r : Option Child). RootFits keys nodes s.front_of r) e s.top) tt)
-    top_stays (Some (Inner n)) e = node_stays [] n (subst (λ (r : Option Child). RootFits keys nodes s.front_of r) e s.top)
-
     -- the tree if a node with three edges or more lost one, which led to a leaf
     pub shape_dropped : Shape P keys' nodes' root
     shape_dropped = record {
       front_of = s.front_of;
-      top = top_stays root refl;
+      top = top_left nodes' (λ n e c. node_stays [] n c) root refl;
       node = all_fit;
       joined = λ a c x y ax cy off. (let r = s.joined a c x y (was_key a x ax) (was_key c y cy) off in (r.0, still_live r.0 r.1, r.2));
       apart = λ a c la lc e. s.apart a c (then_live a la) (then_live c lc) e;
@@ -509,60 +279,192 @@ module _ {P : ℕ} (keys keys' : ℕ → Option Bytes) (nodes : ℕ → Option N
               | inr e ↦ elim (eqb_tells y.byte d) [ inl f ↦ inr f.1 | inr f ↦ absurd (not_some (child_at (x ∷ y ∷ []) d) (rw (e.0, f.0) refl) h) ]
             ]
 
-    alive_off : (m : ℕ) → nodes m ≡ None → m ≢ p
-    alive_off m e z = let f : nodes p ≡ None = rw (← z) e in let g : nodes p ≡ Some was = was_is in cc
-
     module _ (above : Option (ℕ × ℕ)) (leads : LeadsTo nodes root above (Inner p)) (cuts : CutsAfter P nodes cut s.front_of (edge_front s.front_of above) c1) (turns : TurnsTo cut mid root root' above c1) where
       abbrev g0 : Bytes
       g0 = edge_front s.front_of above
 
-      above_live : (above' : Option (ℕ × ℕ)) → LeadsTo nodes root above' (Inner p) → (e : ℕ × ℕ) → above' ≡ Some e → IsSome (nodes e.0)
-      above_live None l e is = absurd cc
-      above_live (Some d) l e is = let z : d ≡ e = cc in subst (λ (w : ℕ × ℕ). IsSome (nodes w.0)) z (is_some (nodes d.0) l.0 l.1)
+      covers0 : CoversNode keys nodes s.front_of g0 p
+      covers0 = covers_above keys nodes root s above (Inner p) leads
 
       -- the change of a node
       turned : (m : ℕ) (x : Node) → m ≢ p → nodes m ≡ Some x → (x' : Node) × (new m ≡ Some x') × Turns x x' (s.front_of m) g0 (Inner p) c1
       turned m x off is =
           let y = cut_node P nodes cut s.front_of g0 c1 cuts m x is in
-          let z = turned_node s.front_of cut mid root root' (Inner p) c1 (λ m. IsSome (nodes m)) s.apart above (cut_leads P nodes cut s.front_of g0 c1 cuts root above (Inner p) leads) (above_live above leads) turns m y.0 (is_some (nodes m) x is) y.1 in
+          let z = turned_node s.front_of cut mid root root' (Inner p) c1 (λ m. IsSome (nodes m)) s.apart above (cut_leads P nodes cut s.front_of g0 c1 cuts root above (Inner p) leads) (leads_live nodes root above (Inner p) leads) turns m y.0 (is_some (nodes m) x is) y.1 in
           (z.0, frees.others m off ∙ z.1, turns_after x y.0 z.0 (s.front_of m) g0 (Inner p) c1 y.2.depth y.2.edges z.2)
 
-      none_more : (above' : Option (ℕ × ℕ)) → LeadsTo nodes root above' (Inner p) → TurnsTo cut mid root root' above' c1 → (m : ℕ) → nodes m ≡ None → new m ≡ None
-      none_more None leads turns m e = frees.others m (alive_off m e) ∙ turns.0 m ∙ cut_was P nodes cut s.front_of g0 c1 cuts m e
-      none_more (Some (q, a)) leads turns m e =
-          let far : m ≢ q = (λ z. let f : nodes q ≡ None = ap nodes (sym z) ∙ e in let g : nodes q ≡ Some leads.0 = leads.1 in absurd cc) in
-          frees.others m (alive_off m e) ∙ turns.0.others m far ∙ cut_was P nodes cut s.front_of g0 c1 cuts m e
+      not_p : (m : ℕ) (x : Node) → new m ≡ Some x → m ≢ p
+      not_p m x is e = let f : new p ≡ Some x = ap new (sym e) ∙ is in let g : new p ≡ None = frees.gone in cc
 
-      edge_above : (above' : Option (ℕ × ℕ)) → LeadsTo nodes root above' (Inner p) → TurnsTo cut mid root root' above' c1
-          → ((edge_front s.front_of above' ≡ []) × (root ≡ Some (Inner p)) × (root' ≡ Some c1)) ⊎ ((m : ℕ) × (b : ℕ) × IsSome (nodes m) × (edge_front s.front_of above' ≡ s.front_of m ++ b ∷ []) × (root' ≡ root))
-      edge_above None leads turns = inl (refl, leads, turns.1)
-      edge_above (Some (q, a)) leads turns = inr (q, a, is_some (nodes q) leads.0 leads.1, refl, turns.1)
-
-      merges : Merges nodes new s.front_of root root' g0 c1 was p b b1
-      merges = record {
-        gone = frees.gone;
-        high = high;
-        two = two;
-        only = only_two was.edges just (is_some (child_at was.edges b) (Leaf i) low) (is_some (child_at was.edges b1) c1 high);
-        above = edge_above above leads turns;
-        others = turned;
-        no_more = none_more above leads turns;
-      }
-
-      not_freed : (m : ℕ) (x : Node) → new m ≡ Some x → m ≢ p
-      not_freed m x is e = let f : new p ≡ Some x = ap new (sym e) ∙ is in let g : new p ≡ None = frees.gone in cc
-
-      prefix_led : (m : ℕ) (x x' : Node) → cut m ≡ Some x → new m ≡ Some x' → x'.prefix ≡ x.prefix
-      prefix_led m x x' was is = turned_prefix cut mid root root' above c1 turns m x x' was (sym (frees.others m (not_freed m x' is)) ∙ is)
+      was_live : (m : ℕ) (x : Node) → new m ≡ Some x → (w : Node) × (nodes m ≡ Some w)
+      was_live m x is = go (nodes m) refl
+        where
+          go : (o : Option Node) → nodes m ≡ o → (w : Node) × (nodes m ≡ Some w)
+          go None e = let f : new m ≡ None = frees.others m (not_p m x is) ∙ turned_free cut mid root root' above c1 turns m (cut_was P nodes cut s.front_of g0 c1 cuts m e) in absurd cc
+          go (Some w) e = (w, e)
 
       recut : Recut P nodes new s.front_of g0 c1
-      recut = record {
-        others = λ m x x' was is off. (let y = cut_node P nodes cut s.front_of g0 c1 cuts m x was in prefix_led m y.0 x' y.1 is ∙ y.2.other off);
-        own = λ m x x' was is same. (let y = cut_node P nodes cut s.front_of g0 c1 cuts m x was in prefix_led m y.0 x' y.1 is ∙ y.2.own same);
-      }
+      recut = recut_by P nodes cut new s.front_of g0 c1 cuts (λ m x x' was is. turned_prefix cut mid root root' above c1 turns m x x' was (sym (frees.others m (not_p m x' is)) ∙ is))
+
+      live_kept : (m : ℕ) → m ≢ p → IsSome (nodes m) → IsSome (new m)
+      live_kept m off live = let x = some_of (nodes m) live in let y = turned m x.0 off x.1 in is_some (new m) y.0 y.1
+
+      node_kept : (g : Bytes) (m : ℕ) → m ≢ p → CoversNode keys nodes s.front_of g m → CoversNode keys' new s.front_of g m
+      node_kept g m off c = record { live = live_kept m off c.live; front = c.front; only = λ j l e h. c.only j l (was_key j l e) h }
+
+      edge_kept : (m : ℕ) (x : Node) → nodes m ≡ Some x → m ≢ p → (b' : ℕ) (c : Child) → s.front_of m ++ b' ∷ [] ≢ g0 → child_at x.edges b' ≡ Some c → Covers keys nodes s.front_of (s.front_of m ++ b' ∷ []) c → Covers keys' new s.front_of (s.front_of m ++ b' ∷ []) c
+      edge_kept m x is off b' (Leaf j) far there c =
+          elim (eqb_tells j i) [
+            | inl e ↦ absurd (off (one_leaf m (is_some (nodes m) x is) b' (subst (λ (j : ℕ). CoversLeaf keys (s.front_of m ++ b' ∷ []) j) e.1 c)))
+            | inr e ↦ leaf_kept _ j e.1 c
+          ]
+      edge_kept m x is off b' (Inner m') far there c =
+          elim (eqb_tells m' p) [
+            | inl e ↦ absurd (far (ap (edge_front s.front_of) (one_above keys nodes root s p (Some (m, b')) above (x, is, there ∙ ap (λ (n : ℕ). Some (Inner n)) e.1) leads)))
+            | inr e ↦ node_kept _ m' e.1 c
+          ]
+
+      -- a remaining key that begins with t continues with b1
+      left_p : (j : ℕ) (l : Bytes) → keys' j ≡ Some l → Begins t l → Begins (t ++ b1 ∷ []) l
+      left_p j l e h =
+          let old : keys j ≡ Some l = was_key j l e in
+          let m : Begins (t ++ next_byte t l ∷ []) l = Begins-more t l h (fits_p.longer j l old h) in
+          elim (only_two was.edges just (is_some (child_at was.edges b) (Leaf i) low) (is_some (child_at was.edges b1) c1 high) (next_byte t l) (fits_p.edge j l old h)) [
+            | inl q ↦ absurd (not_gone j l e (leaf_i.only j l old (subst (λ (c : ℕ). Begins (t ++ c ∷ []) l) q m)))
+            | inr q ↦ subst (λ (c : ℕ). Begins (t ++ c ∷ []) l) q m
+          ]
+
+      raised : (c : Child) → Covers keys nodes s.front_of (t ++ b1 ∷ []) c → Covers keys' new s.front_of g0 c
+      raised (Leaf j) c =
+          let off : j ≢ i = λ e. (
+          let f : keys i ≡ Some c.key = rw (← e) c.is in
+          let f2 : keys i ≡ Some k = loses.was in
+          let h : c.key ≡ k = cc in
+          let u : next_byte t k ≡ b1 = Begins-next t k b1 (rw (← h) c.front) in
+          let v : next_byte t k ≡ b = Begins-next t k b k_front in
+          two (sym v ∙ u)) in
+          record {
+            key = c.key;
+            is = kept j c.key c.is off;
+            front = Begins-trans g0 t c.key covers0.front (Begins-edge_front t c.key b1 c.front);
+            only = λ j' l e h. c.only j' l (was_key j' l e) (left_p j' l e (covers0.only j' l (was_key j' l e) h));
+          }
+      raised (Inner m) c =
+          let off : m ≢ p = λ e. (
+          let a : length (t ++ b1 ∷ []) ≤ length (s.front_of m) = Begins-length _ _ c.front in
+          let z : length (s.front_of m) ≡ length t = ap (λ m. length (s.front_of m)) e in
+          let l : length (t ++ b1 ∷ []) ≡ length t + 1 = length-append t (b1 ∷ []) in
+          omega arith) in
+          record {
+            live = live_kept m off c.live;
+            front = Begins-trans g0 t (s.front_of m) covers0.front (Begins-edge_front t (s.front_of m) b1 c.front);
+            only = λ j l e h. c.only j l (was_key j l e) (left_p j l e (covers0.only j l (was_key j l e) h));
+          }
+
+      fits_left : (m : ℕ) (x x' : Node) → nodes m ≡ Some x → m ≢ p → Turns x x' (s.front_of m) g0 (Inner p) c1 → NodeFits keys' new s.front_of (s.front_of m) x'
+      fits_left m x x' is off r =
+          let g : Bytes = s.front_of m in
+          let f : NodeFits keys nodes s.front_of g x = s.node m x is in
+          record {
+            depth = r.depth ∙ f.depth;
+            below = λ b' c e.
+                elim (Bytes-cases (g ++ b' ∷ []) g0) [
+                  | inl at ↦
+                      let a : child_at x'.edges b' ≡ Some c1 = r.now b' at in
+                      let h : c ≡ c1 = cc in
+                      rw (at, h) (raised c1 (fits_p.below b1 c1 high))
+                  | inr far ↦
+                      let a : child_at x.edges b' ≡ Some c = sym (r.rest b' far) ∙ e in
+                      edge_kept m x is off b' c far a (f.below b' c a)
+                ];
+            longer = λ j l e h. f.longer j l (was_key j l e) h;
+            edge = λ j l e h.
+                let y : IsSome (child_at x.edges (next_byte g l)) = f.edge j l (was_key j l e) h in
+                elim (Bytes-cases (g ++ next_byte g l ∷ []) g0) [
+                  | inl at ↦ is_some (child_at x'.edges (next_byte g l)) c1 (r.now (next_byte g l) at)
+                  | inr far ↦ let P : Option Child → Type 0 = λ o. IsSome o in subst P (sym (r.rest (next_byte g l) far)) y
+                ];
+            parts = parts_left m x is off;
+            ascends = r.ascends f.ascends;
+          }
+
+      node_fits : (m : ℕ) (x : Node) → new m ≡ Some x → NodeFits keys' new s.front_of (s.front_of m) x
+      node_fits m x is =
+          let off : m ≢ p = not_p m x is in
+          let w = was_live m x is in
+          let y = turned m w.0 off w.1 in
+          let a : new m ≡ Some y.0 = y.1 in
+          let h : y.0 ≡ x = cc in
+          subst (λ (x : Node). NodeFits keys' new s.front_of (s.front_of m) x) h (fits_left m w.0 y.0 w.1 off y.2)
+
+      joined_left : (a c : ℕ) (x y : Bytes) → keys' a ≡ Some x → keys' c ≡ Some y → a ≢ c → (m : ℕ) × IsSome (new m) × (s.front_of m ≡ common x y)
+      joined_left a c x y ax cy apart =
+          let r = s.joined a c x y (was_key a x ax) (was_key c y cy) apart in
+          let off : r.0 ≢ p = λ e. (
+          let z : t ≡ common x y = ap s.front_of (sym e) ∙ r.2 in
+          let tx : Begins t x = rw z (common-left x y) in
+          let ty : Begins t y = rw (z, common_comm x y) (common-left y x) in
+          let h : Begins (t ++ b1 ∷ []) (common x y) = common-greatest (t ++ b1 ∷ []) x y (left_p a x ax tx) (left_p c y cy ty) in
+          let l1 : length (t ++ b1 ∷ []) ≤ length (common x y) = Begins-length _ _ h in
+          let l2 : length (t ++ b1 ∷ []) ≡ length t + 1 = length-append t (b1 ∷ []) in
+          let l3 : length t ≡ length (common x y) = ap length z in
+          omega arith) in
+          (r.0, live_kept r.0 off r.1, r.2)
+
+      -- the edge above is that of the root, or of a node
+      hangs : Hangs nodes root root' (Inner p) c1 above
+      hangs = above_cases nodes cut mid root root' above (Inner p) c1 leads turns
+
+      top_fits : RootFits keys' new s.front_of root'
+      top_fits =
+          elim hangs [
+            | inl a ↦ rw a.2 (subst (λ (g : Bytes). Covers keys' new s.front_of g c1) (ap (edge_front s.front_of) a.0) (raised c1 (fits_p.below b1 c1 high)))
+            | inr a ↦ rw a.3 (top_left new (λ n e c. node_kept [] n (λ z. let f : None ≡ above = one_above keys nodes root s p None above (e ∙ ap (λ (n : ℕ). Some (Inner n)) z) leads in let g : above ≡ Some a.0 = a.1 in cc) c) root refl)
+          ]
+
+      -- the child that moved up keeps the bytes that its front has after the edge above
+      kept_up : (g : Bytes) (j : ℕ) (x' : Node) → c1 ≡ Inner j → g ≡ g0 → new j ≡ Some x' → x'.prefix ≡ take P (drop (length g) (s.front_of j))
+      kept_up g j x' e same is =
+          let w = was_live j x' is in
+          recut.own j w.0 x' w.1 is e ∙ ap (λ (z : Bytes). take P (drop (length z) (s.front_of j))) (sym same)
+
+      -- and each other node keeps its prefix
+      kept_stays : (a : Option (ℕ × ℕ)) (j : ℕ) (x' : Node) → LeadsTo nodes root a (Inner j) → (a ≡ Some (p, b1) → ⊥) → new j ≡ Some x' → x'.prefix ≡ kept_prefix P s.front_of a j
+      kept_stays a j x' l far is =
+          let w = was_live j x' is in
+          recut.others j w.0 x' w.1 is (λ z. far (one_above keys nodes root s j a (Some (p, b1)) l (was, was_is, high ∙ ap (λ (c : Child). Some c) z))) ∙ s.keeps a j w.0 l w.1
+
+      kept_merged : Keeps P new root' s.front_of
+      kept_merged None j x' l is =
+          elim hangs [
+            | inl a ↦ kept_up [] j x' (let e : Some c1 ≡ Some (Inner j) = sym a.2 ∙ l in cc) (sym (ap (edge_front s.front_of) a.0)) is
+            | inr a ↦ kept_stays None j x' (sym a.3 ∙ l) (λ e. absurd cc) is
+          ]
+      kept_merged (Some (q, c)) j x' l is =
+          let off : q ≢ p = not_p q l.0 l.1 in
+          let w = was_live q l.0 l.1 in
+          let y = turned q w.0 off w.1 in
+          let f : new q ≡ Some y.0 = y.1 in
+          let g : new q ≡ Some l.0 = l.1 in
+          let z : l.0 ≡ y.0 = cc in
+          let there : child_at y.0.edges c ≡ Some (Inner j) = ap (λ (x : Node). child_at x.edges c) (sym z) ∙ l.2 in
+          elim (Bytes-cases (s.front_of q ++ c ∷ []) g0) [
+            | inl at ↦ kept_up (s.front_of q ++ c ∷ []) j x' (let e : child_at y.0.edges c ≡ Some c1 = y.2.now c at in cc) at is
+            | inr far ↦ kept_stays (Some (q, c)) j x' (w.0, w.1, sym (y.2.rest c far) ∙ there) (λ e. off (let h : (q, c) ≡ (p, b1) = cc in ap (λ (w : ℕ × ℕ). w.0) h)) is
+          ]
 
       -- the tree if the edge above a node with two edges leads to its other child, not to the node
       pub edge_merged : Shape P keys' new root'
-      edge_merged =
-          shape_merged new root' g0 c1 b1 merges (covers_above keys nodes root s above (Inner p) leads) recut
-          (λ a j l e. one_above keys nodes root s j a (Some (p, b1)) l (was, was_is, high ∙ ap (λ (c : Child). Some c) e))
+      edge_merged = record {
+        front_of = s.front_of;
+        top = top_fits;
+        node = node_fits;
+        joined = joined_left;
+        apart = λ a c la lc e.
+            let x = some_of (new a) la in
+            let w = was_live a x.0 x.1 in
+            let y = some_of (new c) lc in
+            let v = was_live c y.0 y.1 in
+            s.apart a c (is_some (nodes a) w.0 w.1) (is_some (nodes c) v.0 v.1) e;
+        keeps = kept_merged;
+      }

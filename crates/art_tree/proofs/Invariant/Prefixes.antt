@@ -171,6 +171,18 @@ turned_prefix old new root root' (Some (p, b)) to t m x x' was is =
           ap (λ (y : Node). y.prefix) z
     ]
 
+-- each old node keeps its prefix, but the child keeps the bytes that its front has after g
+pub record Recut (P : ℕ) (old new : ℕ → Option Node) (front_of : ℕ → Bytes) (g : Bytes) (child : Child) : Type 0 where
+  pub others : (m : ℕ) (x x' : Node) → old m ≡ Some x → new m ≡ Some x' → child ≢ Inner m → x'.prefix ≡ x.prefix
+  pub own : (m : ℕ) (x x' : Node) → old m ≡ Some x → new m ≡ Some x' → child ≡ Inner m → x'.prefix ≡ take P (drop (length g) (front_of m))
+
+-- so after a cut, if the other changes keep the prefixes
+pub recut_by : (P : ℕ) (old cut new : ℕ → Option Node) (front_of : ℕ → Bytes) (g : Bytes) (c : Child) → CutsAfter P old cut front_of g c → ((m : ℕ) (x x' : Node) → cut m ≡ Some x → new m ≡ Some x' → x'.prefix ≡ x.prefix) → Recut P old new front_of g c
+recut_by P old cut new front_of g c cuts same = record {
+  others = λ m x x' was is off. (let y = cut_node P old cut front_of g c cuts m x was in same m y.0 x' y.1 is ∙ y.2.other off);
+  own = λ m x x' was is at. (let y = cut_node P old cut front_of g c cuts m x was in same m y.0 x' y.1 is ∙ y.2.own at);
+}
+
 -- a prefix cut from a key is the bytes that the child's front has after g
 pub cuts_after : (P : ℕ) (old new : ℕ → Option Node) (front_of : ℕ → Bytes) (c : Child) (k g : Bytes) (start : ℕ) → start ≡ length g → ((n : ℕ) (x : Node) → c ≡ Inner n → old n ≡ Some x → Begins (front_of n) k × (x.depth ≡ length (front_of n)) × (start ≤ x.depth))
     → Cuts old new c (λ end. take P (slice_range k start end)) → CutsAfter P old new front_of g c

@@ -7,17 +7,17 @@ use Rattle.blart_keys.specs.Bytes.{common}
 use Rattle.art_tree.specs.Invariant.EdgesAbove.{LeadsTo, TurnsTo, edge_front}
 use Rattle.art_tree.specs.Calls.Forks.{PastLength}
 use Rattle.art_kinds.specs.Nodes.{Node, Makes}
-use Rattle.art_kinds.specs.Edges.{child_at, Ascends}
+use Rattle.art_kinds.specs.Edges.{child_at}
 use Rattle.art_tree.specs.Calls.Removing.{CutsAfter}
 use Rattle.art_tree.specs.Invariant.Shape.{Shape, Keeps, kept_prefix, Covers, CoversLeaf, CoversNode, NodeFits, RootFits, Parts}
 use Rattle.art_kinds.specs.declared.records.ids.Edge.{Edge}
 use Rattle.art_kinds.specs.declared.records.ids.Child.{Child}
 use Rattle.art_kinds.specs.declared.records.ids.Child.TheVariants.{Leaf, Inner}
 use Rattle.art_tree.proofs.BeginsLemmas.{Begins-length, Begins-more, Begins-trans, Begins-itself, Begins-next, edge_some, Begins-linear, Begins-past, Begins-equal, Begins-edge_front, Begins-cases, common_same, common_at, Bytes-cases}
-use Rattle.blart_keys.proofs.Options.{is_some, some_of}
-use Rattle.art_tree.proofs.Invariant.EdgesAbove.{Turns, turned_node, turns_after, leads_made}
+use Rattle.blart_keys.proofs.Options.{is_some, some_of, not_some}
+use Rattle.art_tree.proofs.Invariant.EdgesAbove.{Turns, turned_node, turned_off, turned_free, turns_after, leads_made, leads_live, Hangs, above_cases}
 use Rattle.art_tree.proofs.Invariant.OneEdge.{one_above}
-use Rattle.art_tree.proofs.Invariant.Prefixes.{keeps_as, cut_node, cut_was, cut_free, cut_leads, turned_prefix}
+use Rattle.art_tree.proofs.Invariant.Prefixes.{keeps_as, cut_node, cut_was, cut_free, cut_leads, turned_prefix, Recut, recut_by}
 use Rattle.art_tree.proofs.Invariant.Growing.{covers_above, Departs, Gains, kept, kept_cases, within, Parts-kept, joined_more, edge_toward}
 use Rattle.art_tree.proofs.Invariant.Subtrees.{above_leaf, above_node}
 
@@ -25,467 +25,38 @@ use Rattle.art_tree.proofs.Invariant.Subtrees.{above_leaf, above_node}
 abbrev pub Past : (ℕ → Bytes) → Bytes → Child → Type 0
 Past front_of t c = PastLength front_of (length t) c
 
--- each old node keeps its prefix, but the child keeps the bytes that its front has after g
-pub record Recut (P : ℕ) (old new : ℕ → Option Node) (front_of : ℕ → Bytes) (g : Bytes) (child : Child) : Type 0 where
-  pub others : (m : ℕ) (x x' : Node) → old m ≡ Some x → new m ≡ Some x' → child ≢ Inner m → x'.prefix ≡ x.prefix
-  pub own : (m : ℕ) (x x' : Node) → old m ≡ Some x → new m ≡ Some x' → child ≡ Inner m → x'.prefix ≡ take P (drop (length g) (front_of m))
-
--- the new node n is on the edge with the front g0, above the child c0 and the leaf i
-pub record Splits (P : ℕ) (old new : ℕ → Option Node) (front_of : ℕ → Bytes) (root root' : Option Child) (g0 : Bytes) (c0 : Child) (n i : ℕ) (t : Bytes) (bc bk : ℕ) : Type 0 where
-  pub fresh : old n ≡ None
-  pub made : Node
-  pub made_is : new n ≡ Some made
-  pub depth : made.depth ≡ length t
-  pub ascends : Ascends made.edges
-  pub low : child_at made.edges bk ≡ Some (Leaf i)
-  pub high : child_at made.edges bc ≡ Some c0
-  pub prefix : made.prefix ≡ take P (drop (length g0) t)
-  pub only : (b : ℕ) (c : Child) → child_at made.edges b ≡ Some c → ((b ≡ bk) × (c ≡ Leaf i)) ⊎ ((b ≡ bc) × (c ≡ c0))
-  pub above : ((g0 ≡ []) × (root ≡ Some c0) × (root' ≡ Some (Inner n))) ⊎ ((p : ℕ) × (b : ℕ) × IsSome (old p) × (g0 ≡ front_of p ++ b ∷ []) × (root' ≡ root))
-  pub others : (m : ℕ) (x : Node) → old m ≡ Some x → (x' : Node) × (new m ≡ Some x') × Turns x x' (front_of m) g0 c0 (Inner n)
-  pub no_more : (m : ℕ) → m ≢ n → old m ≡ None → new m ≡ None
-
-module _ {P : ℕ} (keys keys' : ℕ → Option Bytes) (nodes nodes' : ℕ → Option Node) (root root' : Option Child) (g0 : Bytes) (c0 : Child) (n i : ℕ) (t k : Bytes) (s : Shape P keys nodes root)
-    (gains : Gains keys keys' i k) (d : Departs keys t k) (splits : Splits P nodes nodes' s.front_of root root' g0 c0 n i t (next_byte t d.nearest_key) (next_byte t k))
-    (g0_t : Begins g0 t) (past : Past s.front_of t c0) (covers0 : Covers keys nodes s.front_of g0 c0)
-    (recut : Recut P nodes nodes' s.front_of (t ++ next_byte t d.nearest_key ∷ []) c0) (one : (a : Option (ℕ × ℕ)) (j : ℕ) → LeadsTo nodes root a (Inner j) → c0 ≡ Inner j → edge_front s.front_of a ≡ g0) where
-  -- the fronts, with that of the new node
-  abbrev fronts_after : ℕ → Bytes
-  fronts_after m = cond (eqb m n) t (s.front_of m)
-
-  after-new : fronts_after n ≡ t
-  after-new = rw (eq-eqb n n refl) refl
-
-  after-old : (m : ℕ) → m ≢ n → fronts_after m ≡ s.front_of m
-  after-old m h = elim (eqb_tells m n) [ inl e ↦ absurd (h e.1) | inr e ↦ rw e.0 refl ]
-
-  not_new : (m : ℕ) → IsSome (nodes m) → m ≢ n
-  not_new m h e = let x = some_of (nodes m) h in let f : nodes n ≡ Some x.0 = rw (← e) x.1 in let g : nodes n ≡ None = splits.fresh in cc
-
-  live_kept : (m : ℕ) → IsSome (nodes m) → IsSome (nodes' m)
-  live_kept m h = let x = some_of (nodes m) h in let y = splits.others m x.0 x.1 in is_some (nodes' m) y.0 y.1
-
-  live_new : IsSome (nodes' n)
-  live_new = is_some (nodes' n) splits.made splits.made_is
-
-  -- a child that covers a node whose front is a prefix of t is not past t
-  not_past_above : (m : ℕ) → IsSome (nodes m) → Begins (s.front_of m) t → (g : Bytes) (c : Child) → Covers keys nodes s.front_of g c → Begins g (s.front_of m) → Past s.front_of t c → ⊥
-  not_past_above m live mt g (Leaf j) cov gm far = above_leaf keys nodes root s m live g j cov gm
-  not_past_above m live mt g (Inner m') cov gm far =
-      let a : length (s.front_of m') ≤ length (s.front_of m) = Begins-length (s.front_of m') (s.front_of m) (above_node keys nodes root s m live g m' cov gm) in
-      let b : length (s.front_of m) ≤ length t = Begins-length (s.front_of m) t mt in
-      let f : length t < length (s.front_of m') = far in
-      omega arith
-
-  -- no node had the front t
-  not_front : (m : ℕ) → IsSome (nodes m) → s.front_of m ≡ t → ⊥
-  not_front m live e =
-      let mt : Begins (s.front_of m) t = rw e (Begins-itself t) in
-      not_past_above m live mt g0 c0 covers0 (rw e g0_t) past
-
-  -- the child of an edge toward t other than the split one is not past t
-  not_past_edge : (m : ℕ) → IsSome (nodes m) → (b : ℕ) (c : Child) → Covers keys nodes s.front_of (s.front_of m ++ b ∷ []) c → s.front_of m ++ b ∷ [] ≢ g0 → Begins (s.front_of m ++ b ∷ []) t → Past s.front_of t c → ⊥
-  not_past_edge m live b c cov other gt far =
-      let f : Bytes = s.front_of m in
-      let g : Bytes = f ++ b ∷ [] in
-      elim (cases_lt (length g0) (length g)) [
-        | inl lt ↦
-            let le : length g ≡ length f + 1 = length-append f (b ∷ []) in
-            let ft : Begins f t = Begins-edge_front f t b gt in
-            not_past_above m live ft g0 c0 covers0 (Begins-linear g0 f t g0_t ft (omega arith)) past
-        | inr ge ↦
-            elim splits.above [
-              | inl a ↦
-                  let z : length g0 ≡ 0 = ap length a.0 in
-                  let le : length g ≡ length f + 1 = length-append f (b ∷ []) in
-                  absurd (omega arith)
-              | inr a ↦
-                  let f0 : Bytes = s.front_of a.0 in
-                  let e : g0 ≡ f0 ++ a.1 ∷ [] = a.3 in
-                  let le0 : length g0 ≡ length f0 + 1 = ap length e ∙ length-append f0 (a.1 ∷ []) in
-                  let f0t : Begins f0 t = Begins-edge_front f0 t a.1 (rw (← e) g0_t) in
-                  elim (cases_lt (length g) (length g0)) [
-                    | inl lt ↦ not_past_above a.0 a.2 f0t g c cov (Begins-linear g f0 t gt f0t (omega arith)) far
-                    | inr same ↦ other (Begins-equal g g0 (Begins-linear g g0 t gt g0_t ge) same)
-                  ]
-            ]
-      ]
-
-  nearest_at : (j : ℕ) (l : Bytes) → keys j ≡ Some l → j ≡ d.nearest → l ≡ d.nearest_key
-  nearest_at j l is e = let f : keys d.nearest ≡ Some l = rw (← e) is in let g : keys d.nearest ≡ Some d.nearest_key = d.nearest_is in cc
-
-  nearest_g0 : Begins g0 d.nearest_key
-  nearest_g0 = Begins-trans g0 t d.nearest_key g0_t d.nearest_front
-
-  -- a key below the split edge begins with t, and continues as the nearest key does
-  below_g0 : (c : Child) → c ≡ c0 → Covers keys nodes s.front_of g0 c → Past s.front_of t c → (j : ℕ) (l : Bytes) → keys j ≡ Some l → Begins g0 l → Begins (t ++ next_byte t d.nearest_key ∷ []) l
-  below_g0 (Leaf j0) e cov far j l is b =
-      let a : j ≡ j0 = cov.only j l is b in
-      let h : d.nearest ≡ j0 = cov.only d.nearest d.nearest_key d.nearest_is nearest_g0 in
-      rw (nearest_at j l is (a ∙ sym h)) (Begins-more t d.nearest_key d.nearest_front d.nearest_longer)
-  below_g0 (Inner m0) e cov far j l is b =
-      let a : Begins (s.front_of m0) l = cov.only j l is b in
-      let h : Begins (s.front_of m0) d.nearest_key = cov.only d.nearest d.nearest_key d.nearest_is nearest_g0 in
-      Begins-trans (t ++ next_byte t d.nearest_key ∷ []) (s.front_of m0) l (Begins-past t (s.front_of m0) d.nearest_key d.nearest_front h far) a
-
-  under_g0 : (j : ℕ) (l : Bytes) → keys j ≡ Some l → Begins g0 l → Begins (t ++ next_byte t d.nearest_key ∷ []) l
-  under_g0 j l is b = below_g0 c0 refl covers0 past j l is b
-
-  -- k continues from t with another byte than the nearest key
-  not_nearest : Begins (t ++ next_byte t d.nearest_key ∷ []) k → ⊥
-  not_nearest b =
-      let e : next_byte t k ≡ next_byte t d.nearest_key = Begins-next t k (next_byte t d.nearest_key) b in
-      d.alone d.nearest d.nearest_key d.nearest_is (rw e (Begins-more t d.nearest_key d.nearest_front d.nearest_longer))
-
-  leaf_kept : (g : Bytes) (j : ℕ) → (Begins g t → ⊥) → CoversLeaf keys g j → CoversLeaf keys' g j
-  leaf_kept g j far c = record {
-    key = c.key;
-    is = kept keys keys' i k gains j c.key c.is;
-    front = c.front;
-    only = λ j' l e b.
-        elim (kept_cases keys keys' i k gains j' l e) [
-          | inl o ↦ c.only j' l o b
-          | inr o ↦
-              let gk : Begins g k = rw (← o.1) b in
-              absurd (far (within keys nodes s.front_of t k d g j c.key c.is c.front gk))
-        ];
-  }
-
-  node_kept : (g : Bytes) (m : ℕ) → (Begins g t → length t < length (s.front_of m) → ⊥) → CoversNode keys nodes s.front_of g m → CoversNode keys' nodes' fronts_after g m
-  node_kept g m far c =
-      let e : fronts_after m ≡ s.front_of m = after-old m (not_new m c.live) in
-      record {
-        live = live_kept m c.live;
-        front = rw e c.front;
-        only = λ j' l is b. rw e (
-            elim (kept_cases keys keys' i k gains j' l is) [
-              | inl o ↦ c.only j' l o b
-              | inr o ↦
-                  let x = some_of (nodes m) c.live in
-                  let q = (s.node m x.0 x.1).parts in
-                  let gk : Begins g k = rw (← o.1) b in
-                  let gt : Begins g t = within keys nodes s.front_of t k d g q.i q.k q.k_is (Begins-trans g (s.front_of m) q.k c.front q.k_front) gk in
-                  elim (cases_lt (length t) (length (s.front_of m))) [
-                    | inl lt ↦ absurd (far gt lt)
-                    | inr le ↦
-                        let a : Begins (s.front_of m) d.nearest_key = c.only d.nearest d.nearest_key d.nearest_is (Begins-trans g t d.nearest_key gt d.nearest_front) in
-                        rw o.1 (Begins-trans (s.front_of m) t k (Begins-linear (s.front_of m) t d.nearest_key a d.nearest_front le) d.front)
-                  ]
-            ]);
-      }
-
-  edge_kept : (g : Bytes) (c : Child) → (Begins g t → Past s.front_of t c → ⊥) → Covers keys nodes s.front_of g c → Covers keys' nodes' fronts_after g c
-  edge_kept g (Leaf j) far c = leaf_kept g j (λ b. far b tt) c
-  edge_kept g (Inner m) far c = node_kept g m far c
-
-  new_node : CoversNode keys' nodes' fronts_after g0 n
-  new_node = record {
-    live = live_new;
-    front = rw after-new g0_t;
-    only = λ j l e b. rw after-new (
-        elim (kept_cases keys keys' i k gains j l e) [
-          | inl o ↦ Begins-edge_front t l (next_byte t d.nearest_key) (under_g0 j l o b)
-          | inr o ↦ rw o.1 d.front
-        ]);
-  }
-
-  new_leaf : CoversLeaf keys' (t ++ next_byte t k ∷ []) i
-  new_leaf = record {
-    key = k;
-    is = gains.has;
-    front = Begins-more t k d.front d.longer;
-    only = λ j l e b. elim (kept_cases keys keys' i k gains j l e) [ inl o ↦ absurd (d.alone j l o b) | inr o ↦ o.0 ];
-  }
-
-  -- the old child, below the new node
-  old_child : (c : Child) → c ≡ c0 → Covers keys nodes s.front_of g0 c → Past s.front_of t c → Covers keys' nodes' fronts_after (t ++ next_byte t d.nearest_key ∷ []) c
-  old_child (Leaf j0) e cov far = record {
-    key = cov.key;
-    is = kept keys keys' i k gains j0 cov.key cov.is;
-    front = under_g0 j0 cov.key cov.is cov.front;
-    only = λ j l is b.
-        elim (kept_cases keys keys' i k gains j l is) [
-          | inl o ↦ cov.only j l o (Begins-trans g0 t l g0_t (Begins-edge_front t l (next_byte t d.nearest_key) b))
-          | inr o ↦ absurd (not_nearest (rw (← o.1) b))
-        ];
-  }
-  old_child (Inner m0) e cov far =
-      let e : fronts_after m0 ≡ s.front_of m0 = after-old m0 (not_new m0 cov.live) in
-      let h : Begins (s.front_of m0) d.nearest_key = cov.only d.nearest d.nearest_key d.nearest_is nearest_g0 in
-      record {
-        live = live_kept m0 cov.live;
-        front = rw e (Begins-past t (s.front_of m0) d.nearest_key d.nearest_front h far);
-        only = λ j l is b. rw e (
-            elim (kept_cases keys keys' i k gains j l is) [
-              | inl o ↦ cov.only j l o (Begins-trans g0 t l g0_t (Begins-edge_front t l (next_byte t d.nearest_key) b))
-              | inr o ↦ absurd (not_nearest (rw (← o.1) b))
-            ]);
-      }
-
-  bytes_differ : next_byte t k ≢ next_byte t d.nearest_key
-  bytes_differ e = d.alone d.nearest d.nearest_key d.nearest_is (rw e (Begins-more t d.nearest_key d.nearest_front d.nearest_longer))
-
-  new_parts : Parts keys' t
-  new_parts = record {
-    i = i;
-    j = d.nearest;
-    k = k;
-    l = d.nearest_key;
-    k_is = gains.has;
-    l_is = kept keys keys' i k gains d.nearest d.nearest_key d.nearest_is;
-    k_front = d.front;
-    l_front = d.nearest_front;
-    differ = bytes_differ;
-  }
-
-  new_fits : NodeFits keys' nodes' fronts_after t splits.made
-  new_fits = record {
-    depth = splits.depth;
-    below = λ b c e.
-        elim (splits.only b c e) [
-          | inl o ↦ rw (o.0, o.1) new_leaf
-          | inr o ↦ rw (o.0, o.1) (old_child c0 refl covers0 past)
-        ];
-    longer = λ j l e b.
-        elim (kept_cases keys keys' i k gains j l e) [
-          | inl o ↦
-              let a : length (t ++ next_byte t d.nearest_key ∷ []) ≤ length l = Begins-length _ l (under_g0 j l o (Begins-trans g0 t l g0_t b)) in
-              let le : length (t ++ next_byte t d.nearest_key ∷ []) ≡ length t + 1 = length-append t (next_byte t d.nearest_key ∷ []) in
-              omega arith
-          | inr o ↦ rw o.1 d.longer
-        ];
-    edge = λ j l e b.
-        elim (kept_cases keys keys' i k gains j l e) [
-          | inl o ↦ is_some (child_at splits.made.edges (next_byte t l)) c0 (ap (child_at splits.made.edges) (Begins-next t l (next_byte t d.nearest_key) (under_g0 j l o (Begins-trans g0 t l g0_t b))) ∙ splits.high)
-          | inr o ↦ is_some (child_at splits.made.edges (next_byte t l)) (Leaf i) (ap (λ (l : Bytes). child_at splits.made.edges (next_byte t l)) o.1 ∙ splits.low)
-        ];
-    parts = new_parts;
-    ascends = splits.ascends;
-  }
-
-  -- an old front that is a prefix of k is shorter than t
-  shorter : (m : ℕ) (x : Node) → nodes m ≡ Some x → Begins (s.front_of m) k → length (s.front_of m) < length t
-  shorter m x is b =
-      let q = (s.node m x is).parts in
-      let mt : Begins (s.front_of m) t = within keys nodes s.front_of t k d (s.front_of m) q.i q.k q.k_is q.k_front b in
-      elim (cases_lt (length (s.front_of m)) (length t)) [
-        | inl h ↦ h
-        | inr h ↦ absurd (not_front m (is_some (nodes m) x is) (Begins-equal (s.front_of m) t mt h))
-      ]
-
-  old_fits : (m : ℕ) (x x' : Node) → nodes m ≡ Some x → Turns x x' (s.front_of m) g0 c0 (Inner n) → NodeFits keys' nodes' fronts_after (s.front_of m) x'
-  old_fits m x x' is r =
-      let f : NodeFits keys nodes s.front_of (s.front_of m) x = s.node m x is in
-      let g : Bytes = s.front_of m in
-      let live : IsSome (nodes m) = is_some (nodes m) x is in
-      record {
-        depth = r.depth ∙ f.depth;
-        below = λ b c e.
-            elim (Bytes-cases (g ++ b ∷ []) g0) [
-              | inl at ↦
-                  let a : child_at x'.edges b ≡ Some (Inner n) = r.now b at in
-                  let h : c ≡ Inner n = cc in
-                  rw (at, h) new_node
-              | inr off ↦
-                  let a : child_at x.edges b ≡ Some c = sym (r.rest b off) ∙ e in
-                  edge_kept (g ++ b ∷ []) c (not_past_edge m live b c (f.below b c a) off) (f.below b c a)
-            ];
-        longer = λ j l e b.
-            elim (kept_cases keys keys' i k gains j l e) [
-              | inl o ↦ f.longer j l o b
-              | inr o ↦
-                  let gk : Begins g k = rw (← o.1) b in
-                  let h : length g < length t = shorter m x is gk in
-                  let h2 : length t < length k = d.longer in
-                  rw o.1 (omega arith)
-            ];
-        edge = λ j l e b.
-            let y : IsSome (child_at x.edges (next_byte g l)) = (elim (kept_cases keys keys' i k gains j l e) [
-              | inl o ↦ f.edge j l o b
-              | inr o ↦
-                  let gk : Begins g k = rw (← o.1) b in
-                  rw o.1 (edge_toward keys t k d g x.edges gk (shorter m x is gk) f.edge)
-            ]) in
-            elim (Bytes-cases (g ++ next_byte g l ∷ []) g0) [
-              | inl at ↦ is_some (child_at x'.edges (next_byte g l)) (Inner n) (r.now (next_byte g l) at)
-              | inr off ↦ let P : Option Child → Type 0 = λ o. IsSome o in subst P (sym (r.rest (next_byte g l) off)) y
-            ];
-        parts = Parts-kept keys keys' i k gains g f.parts;
-        ascends = r.ascends f.ascends;
-      }
-
-  was_live : (m : ℕ) (x : Node) → m ≢ n → nodes' m ≡ Some x → (o : Option Node) → nodes m ≡ o → (w : Node) × (nodes m ≡ Some w)
-  was_live m x off is None e = let h : nodes' m ≡ None = splits.no_more m off e in absurd cc
-  was_live m x off is (Some w) e = (w, e)
-
-  node_fits : (m : ℕ) (x : Node) → nodes' m ≡ Some x → NodeFits keys' nodes' fronts_after (fronts_after m) x
-  node_fits m x is =
-      elim (eqb_tells m n) [
-        | inl e ↦
-            let f : nodes' n ≡ Some splits.made = splits.made_is in
-            let g : nodes' n ≡ Some x = rw (← e.1) is in
-            let h : splits.made ≡ x = cc in
-            let z : fronts_after m ≡ t = ap fronts_after e.1 ∙ after-new in
-            subst (λ (f : Bytes). NodeFits keys' nodes' fronts_after f x) (sym z) (subst (λ (x : Node). NodeFits keys' nodes' fronts_after t x) h new_fits)
-        | inr e ↦
-            let w = was_live m x e.1 is (nodes m) refl in
-            let y = splits.others m w.0 w.1 in
-            let a : nodes' m ≡ Some y.0 = y.1 in
-            let h : y.0 ≡ x = cc in
-            let z : fronts_after m ≡ s.front_of m = after-old m e.1 in
-            subst (λ (f : Bytes). NodeFits keys' nodes' fronts_after f x) (sym z) (subst (λ (x : Node). NodeFits keys' nodes' fronts_after (s.front_of m) x) h (old_fits m w.0 y.0 w.1 y.2))
-      ]
-
-  old_joined : (a b : ℕ) (x y : Bytes) → keys a ≡ Some x → keys b ≡ Some y → a ≢ b → (m : ℕ) × IsSome (nodes' m) × (fronts_after m ≡ common x y)
-  old_joined a b x y ax by apart = let r = s.joined a b x y ax by apart in (r.0, live_kept r.0 r.1, after-old r.0 (not_new r.0 r.1) ∙ r.2)
-
-  joined_new : (j : ℕ) (l : Bytes) → keys j ≡ Some l → (m : ℕ) × IsSome (nodes' m) × (fronts_after m ≡ common k l)
-  joined_new j l is =
-      elim (Begins-cases t l) [
-        | inl b ↦ (n, live_new, after-new ∙ sym (common_at t k l d.front d.longer b (d.alone j l is)))
-        | inr b ↦
-            let apart : d.nearest ≢ j = λ e. (let f : keys j ≡ Some d.nearest_key = rw (← e) d.nearest_is in let g : d.nearest_key ≡ l = cc in b (subst (λ (l : Bytes). Begins t l) g d.nearest_front)) in
-            let r = old_joined d.nearest j d.nearest_key l d.nearest_is is apart in
-            (r.0, r.1, r.2 ∙ sym (common_same t k d.nearest_key l d.front d.nearest_front b))
-      ]
-
-  top_kept : (r : Option Child) → root ≡ r → 0 < length g0 → RootFits keys' nodes' fronts_after r
-  top_kept None e pos = λ j.
-      let h : RootFits keys nodes s.front_of None = subst (λ (r : Option Child). RootFits keys nodes s.front_of r) e s.top in
-      let a : keys d.nearest ≡ None = h d.nearest in
-      let b : keys d.nearest ≡ Some d.nearest_key = d.nearest_is in
-      absurd cc
-  top_kept (Some c) e pos =
-      let h : Covers keys nodes s.front_of [] c = subst (λ (r : Option Child). RootFits keys nodes s.front_of r) e s.top in
-      edge_kept [] c (λ b far.
-      elim splits.above [
-        | inl a ↦ (let z : length g0 ≡ 0 = ap length a.0 in omega arith)
-        | inr a ↦ not_past_above a.0 a.2 (Begins-edge_front (s.front_of a.0) t a.1 (rw (← a.3) g0_t)) [] c h tt far
-      ]) h
-
-  top_fits : RootFits keys' nodes' fronts_after root'
-  top_fits =
-      elim splits.above [
-        | inl a ↦ rw a.2 (subst (λ (g : Bytes). CoversNode keys' nodes' fronts_after g n) a.0 new_node)
-        | inr a ↦
-            let le : length g0 ≡ length (s.front_of a.0) + 1 = ap length a.3 ∙ length-append (s.front_of a.0) (a.1 ∷ []) in
-            rw a.4 (top_kept root refl (omega arith))
-      ]
-
-  apart_new : (m : ℕ) → m ≢ n → IsSome (nodes' m) → fronts_after m ≡ t → ⊥
-  apart_new m off live e =
-      let x = some_of (nodes' m) live in
-      let w = was_live m x.0 off x.1 (nodes m) refl in
-      not_front m (is_some (nodes m) w.0 w.1) (sym (after-old m off) ∙ e)
-
-  -- an old edge to a node other than the child: the node keeps its prefix
-  kept_old : (a : Option (ℕ × ℕ)) (j : ℕ) (x' : Node) → LeadsTo nodes root a (Inner j) → (edge_front s.front_of a ≡ g0 → ⊥) → edge_front fronts_after a ≡ edge_front s.front_of a → nodes' j ≡ Some x' → x'.prefix ≡ kept_prefix P fronts_after a j
-  kept_old a j x' l far e is =
-      let cov : CoversNode keys nodes s.front_of (edge_front s.front_of a) j = covers_above keys nodes root s a (Inner j) l in
-      let x = some_of (nodes j) cov.live in
-      keeps_as P s.front_of fronts_after a a j j x.0 x' (s.keeps a j x.0 l x.1) (recut.others j x.0 x' x.1 is (λ z. far (one a j l z))) e (after-old j (not_new j cov.live))
-
-  -- the new node keeps the bytes that its front has after the edge above
-  kept_made : (x' : Node) → nodes' n ≡ Some x' → x'.prefix ≡ take P (drop (length g0) (fronts_after n))
-  kept_made x' is =
-      let f : nodes' n ≡ Some splits.made = splits.made_is in
-      let z : x' ≡ splits.made = cc in
-      ap (λ (x : Node). x.prefix) z ∙ splits.prefix ∙ ap (λ (w : Bytes). take P (drop (length g0) w)) (sym after-new)
-
-  -- the same for the new node under another name
-  kept_at : (g : Bytes) (j : ℕ) (x' : Node) → Inner n ≡ Inner j → g ≡ g0 → nodes' j ≡ Some x' → x'.prefix ≡ take P (drop (length g) (fronts_after j))
-  kept_at g j x' e same is =
-      let z : n ≡ j = cc in
-      subst (λ (k : ℕ). x'.prefix ≡ take P (drop (length g) (fronts_after k))) z (kept_made x' (ap nodes' z ∙ is) ∙ ap (λ (w : Bytes). take P (drop (length w) (fronts_after n))) (sym same))
-
-  kept_split : Keeps P nodes' root' fronts_after
-  kept_split None j x' l is =
-      elim splits.above [
-        | inl a ↦ kept_at [] j x' (let e : Some (Inner n) ≡ Some (Inner j) = sym a.2 ∙ l in cc) (sym a.0) is
-        | inr a ↦ kept_old None j x' (sym a.4 ∙ l) (λ e. edge_some (s.front_of a.0) a.1 (sym (e ∙ a.3))) refl is
-      ]
-  kept_split (Some (q, b)) j x' l is =
-      elim (eqb_tells q n) [
-        | inl e ↦
-            let f : nodes' n ≡ Some l.0 = ap nodes' (sym e.1) ∙ l.1 in
-            let g : nodes' n ≡ Some splits.made = splits.made_is in
-            let z : l.0 ≡ splits.made = cc in
-            let front : fronts_after q ≡ t = ap fronts_after e.1 ∙ after-new in
-            elim (splits.only b (Inner j) (ap (λ (x : Node). child_at x.edges b) (sym z) ∙ l.2)) [
-              | inl o ↦ (let w : Inner j ≡ Leaf i = o.1 in absurd cc)
-              | inr o ↦
-                  let cov : CoversNode keys nodes s.front_of g0 j = subst (λ (c : Child). Covers keys nodes s.front_of g0 c) (sym o.1) covers0 in
-                  let x = some_of (nodes j) cov.live in
-                  let own = recut.own j x.0 x' x.1 is (sym o.1) in
-                  own ∙ ap (λ (w : Bytes). take P (drop (length (t ++ next_byte t d.nearest_key ∷ [])) w)) (sym (after-old j (not_new j cov.live)))
-                  ∙ ap (λ (w : Bytes). take P (drop (length w) (fronts_after j))) (λ h. (sym front) h ++ (sym o.0) h ∷ [])
-            ]
-        | inr e ↦
-            let w = was_live q l.0 e.1 l.1 (nodes q) refl in
-            let y = splits.others q w.0 w.1 in
-            let f : nodes' q ≡ Some y.0 = y.1 in
-            let g : nodes' q ≡ Some l.0 = l.1 in
-            let z : l.0 ≡ y.0 = cc in
-            let there : child_at y.0.edges b ≡ Some (Inner j) = ap (λ (x : Node). child_at x.edges b) (sym z) ∙ l.2 in
-            let front : fronts_after q ++ b ∷ [] ≡ s.front_of q ++ b ∷ [] = ap (λ (u : Bytes). u ++ b ∷ []) (after-old q e.1) in
-            elim (Bytes-cases (s.front_of q ++ b ∷ []) g0) [
-              | inl at ↦ (let u : child_at y.0.edges b ≡ Some (Inner n) = y.2.now b at in kept_at (fronts_after q ++ b ∷ []) j x' (let v : Inner n ≡ Inner j = cc in v) (front ∙ at) is)
-              | inr off ↦ kept_old (Some (q, b)) j x' (w.0, w.1, sym (y.2.rest b off) ∙ there) off front is
-            ]
-      ]
-
-  -- the tree with one node more
-  pub shape_split : Shape P keys' nodes' root'
-  shape_split = record {
-    front_of = fronts_after;
-    top = top_fits;
-    node = node_fits;
-    joined = joined_more keys keys' i k gains nodes' fronts_after old_joined joined_new;
-    apart = λ a b la lb e.
-        elim (eqb_tells a n) [
-          | inl p ↦
-              elim (eqb_tells b n) [
-                | inl q ↦ p.1 ∙ sym q.1
-                | inr q ↦ absurd (apart_new b q.1 lb (sym e ∙ ap fronts_after p.1 ∙ after-new))
-              ]
-          | inr p ↦
-              elim (eqb_tells b n) [
-                | inl q ↦ absurd (apart_new a p.1 la (e ∙ ap fronts_after q.1 ∙ after-new))
-                | inr q ↦
-                    let x = some_of (nodes' a) la in
-                    let w = was_live a x.0 p.1 x.1 (nodes a) refl in
-                    let y = some_of (nodes' b) lb in
-                    let v = was_live b y.0 q.1 y.1 (nodes b) refl in
-                    s.apart a b (is_some (nodes a) w.0 w.1) (is_some (nodes b) v.0 v.1) (sym (after-old a p.1) ∙ e ∙ after-old b q.1)
-              ]
-        ];
-    keeps = kept_split;
-  }
-
--- ---- from the contracts of the store's calls
-
 -- of the two edges of the new node, one leads to the leaf and the other to the old child
 abbrev pub HoldBoth : Edge → Edge → ℕ → ℕ → ℕ → Child → Type 0
 HoldBoth low high bk i bc c =
     ((low ≡ record { byte = bk; to = Leaf i }) × (high ≡ record { byte = bc; to = c })) ⊎ ((low ≡ record { byte = bc; to = c }) × (high ≡ record { byte = bk; to = Leaf i }))
 
+-- these edges lead to two children, and to no other
+abbrev AreEdges : List Edge → ℕ → Child → ℕ → Child → Type 0
+AreEdges es b c b' c' = (child_at es b ≡ Some c) × (child_at es b' ≡ Some c') × ((d : ℕ) (e : Child) → child_at es d ≡ Some e → ((d ≡ b) × (e ≡ c)) ⊎ ((d ≡ b') × (e ≡ c')))
+
 module _ (low high : Edge) (sorted : low.byte < high.byte) where
-  -- each of two edges leads to its child
-  pub low_child : child_at (low ∷ high ∷ []) low.byte ≡ Some low.to
-  low_child = rw (eq-eqb low.byte low.byte refl) refl
+  are_edges : AreEdges (low ∷ high ∷ []) low.byte low.to high.byte high.to
+  are_edges = (
+    rw (eq-eqb low.byte low.byte refl) refl,
+    rw (ne_eqb low.byte high.byte (λ e. omega arith), eq-eqb high.byte high.byte refl) refl,
+    λ b c e.
+        elim (eqb_tells low.byte b) [
+          | inl p ↦ (let f : Some low.to ≡ Some c = rw p.0 at e in let g : c ≡ low.to = cc in inl (sym p.1, g))
+          | inr p ↦
+              elim (eqb_tells high.byte b) [
+                | inl q ↦ (let f : Some high.to ≡ Some c = rw (p.0, q.0) at e in let g : c ≡ high.to = cc in inr (sym q.1, g))
+                | inr q ↦ (let g : Some c ≡ child_at (low ∷ high ∷ []) b = sym e in let f : Some c ≡ None = rw (p.0, q.0) at g in absurd cc)
+              ]
+        ],
+  )
 
-  pub high_child : child_at (low ∷ high ∷ []) high.byte ≡ Some high.to
-  high_child = rw (ne_eqb low.byte high.byte (λ e. omega arith), eq-eqb high.byte high.byte refl) refl
-
-  both_children : (b : ℕ) (c : Child) → child_at (low ∷ high ∷ []) b ≡ Some c → ((b ≡ low.byte) × (c ≡ low.to)) ⊎ ((b ≡ high.byte) × (c ≡ high.to))
-  both_children b c e =
-      elim (eqb_tells low.byte b) [
-        | inl p ↦ (let f : Some low.to ≡ Some c = rw p.0 at e in let g : c ≡ low.to = cc in inl (sym p.1, g))
-        | inr p ↦
-            elim (eqb_tells high.byte b) [
-              | inl q ↦ (let f : Some high.to ≡ Some c = rw (p.0, q.0) at e in let g : c ≡ high.to = cc in inr (sym q.1, g))
-              | inr q ↦ (let g : Some c ≡ child_at (low ∷ high ∷ []) b = sym e in let f : Some c ≡ None = rw (p.0, q.0) at g in absurd cc)
-            ]
+  -- in either order
+  both_edges : (bk i bc : ℕ) (c : Child) → HoldBoth low high bk i bc c → AreEdges (low ∷ high ∷ []) bk (Leaf i) bc c
+  both_edges bk i bc c both =
+      let held : (e f : Edge) → low ≡ e → high ≡ f → AreEdges (low ∷ high ∷ []) e.byte e.to f.byte f.to = λ e f p q. subst (λ (f : Edge). AreEdges (low ∷ high ∷ []) e.byte e.to f.byte f.to) q (subst (λ (e : Edge). AreEdges (low ∷ high ∷ []) e.byte e.to high.byte high.to) p are_edges) in
+      elim both [
+        | inl h ↦ held (record { byte = bk; to = Leaf i }) (record { byte = bc; to = c }) h.0 h.1
+        | inr h ↦ (let a = held (record { byte = bc; to = c }) (record { byte = bk; to = Leaf i }) h.0 h.1 in (a.1, a.0, λ d e is. elim (a.2 d e is) [ inl x ↦ inr x | inr x ↦ inl x ]))
       ]
 
 module _ {P : ℕ} (keys keys' : ℕ → Option Bytes) (nodes cut mid : ℕ → Option Node) (root : Option Child) (n i depth : ℕ) (prefix : List ℕ) (low high : Edge) (c0 : Child) (t k : Bytes) (s : Shape P keys nodes root)
@@ -494,106 +65,460 @@ module _ {P : ℕ} (keys keys' : ℕ → Option Bytes) (nodes cut mid : ℕ → 
   abbrev made : Node
   made = record { depth = depth; prefix = prefix; edges = low ∷ high ∷ [] }
 
-  leaf_child : child_at made.edges (next_byte t k) ≡ Some (Leaf i)
-  leaf_child =
-      elim both [
-        | inl h ↦ ap (child_at made.edges) (ap (λ (e : Edge). e.byte) (sym h.0)) ∙ low_child low high sorted ∙ ap (λ (e : Edge). Some e.to) h.0
-        | inr h ↦ ap (child_at made.edges) (ap (λ (e : Edge). e.byte) (sym h.1)) ∙ high_child low high sorted ∙ ap (λ (e : Edge). Some e.to) h.1
-      ]
+  edges : AreEdges (low ∷ high ∷ []) (next_byte t k) (Leaf i) (next_byte t d.nearest_key) c0
+  edges = both_edges low high sorted (next_byte t k) i (next_byte t d.nearest_key) c0 both
 
-  nearest_child : child_at made.edges (next_byte t d.nearest_key) ≡ Some c0
-  nearest_child =
-      elim both [
-        | inl h ↦ ap (child_at made.edges) (ap (λ (e : Edge). e.byte) (sym h.1)) ∙ high_child low high sorted ∙ ap (λ (e : Edge). Some e.to) h.1
-        | inr h ↦ ap (child_at made.edges) (ap (λ (e : Edge). e.byte) (sym h.0)) ∙ low_child low high sorted ∙ ap (λ (e : Edge). Some e.to) h.0
-      ]
-
-  only_children : (b : ℕ) (c : Child) → child_at made.edges b ≡ Some c → ((b ≡ next_byte t k) × (c ≡ Leaf i)) ⊎ ((b ≡ next_byte t d.nearest_key) × (c ≡ c0))
-  only_children b c e =
-      elim both [
-        | inl h ↦
-            elim (both_children low high sorted b c e) [
-              | inl q ↦ inl (q.0 ∙ ap (λ (e : Edge). e.byte) h.0, q.1 ∙ ap (λ (e : Edge). e.to) h.0)
-              | inr q ↦ inr (q.0 ∙ ap (λ (e : Edge). e.byte) h.1, q.1 ∙ ap (λ (e : Edge). e.to) h.1)
-            ]
-        | inr h ↦
-            elim (both_children low high sorted b c e) [
-              | inl q ↦ inr (q.0 ∙ ap (λ (e : Edge). e.byte) h.0, q.1 ∙ ap (λ (e : Edge). e.to) h.0)
-              | inr q ↦ inl (q.0 ∙ ap (λ (e : Edge). e.byte) h.1, q.1 ∙ ap (λ (e : Edge). e.to) h.1)
-            ]
-      ]
+  fresh : nodes n ≡ None
+  fresh = cut_free P nodes cut s.front_of (t ++ next_byte t d.nearest_key ∷ []) c0 cuts n makes.fresh
 
   off_new : (m : ℕ) (x : Node) → cut m ≡ Some x → m ≢ n
   off_new m x is e = let f : cut n ≡ Some x = ap cut (sym e) ∙ is in let g : cut n ≡ None = makes.fresh in cc
 
-  -- a node that is there after the cut was there before
-  uncut_live : (m : ℕ) (x : Node) → cut m ≡ Some x → IsSome (nodes m)
-  uncut_live m x is = go (nodes m) refl
-    where
-      go : (o : Option Node) → nodes m ≡ o → IsSome (nodes m)
-      go None e = (let f : cut m ≡ None = cut_was P nodes cut s.front_of (t ++ next_byte t d.nearest_key ∷ []) c0 cuts m e in absurd cc)
-      go (Some y) e = is_some (nodes m) y e
+  module _ (above : Option (ℕ × ℕ)) (new : ℕ → Option Node) (root' : Option Child) (leads : LeadsTo nodes root above c0) (turns : TurnsTo mid new root root' above (Inner n)) (prefix_is : prefix ≡ take P (drop (length (edge_front s.front_of above)) t))
+      (past : Past s.front_of t c0) (g0_t : Begins (edge_front s.front_of above) t) where
+    abbrev g0 : Bytes
+    g0 = edge_front s.front_of above
 
-  above_live : (above : Option (ℕ × ℕ)) → LeadsTo cut root above c0 → (e : ℕ × ℕ) → above ≡ Some e → IsSome (nodes e.0)
-  above_live None l e is = absurd cc
-  above_live (Some d) l e is = let z : d ≡ e = cc in subst (λ (w : ℕ × ℕ). IsSome (nodes w.0)) z (uncut_live d.0 l.0 l.1)
+    covers0 : Covers keys nodes s.front_of g0 c0
+    covers0 = covers_above keys nodes root s above c0 leads
 
-  -- the change of a node after the cut
-  led_cut : (above : Option (ℕ × ℕ)) (new : ℕ → Option Node) (root' : Option Child) → LeadsTo cut root above c0 → TurnsTo mid new root root' above (Inner n) → (m : ℕ) (x : Node) → cut m ≡ Some x → (x' : Node) × (new m ≡ Some x') × Turns x x' (s.front_of m) (edge_front s.front_of above) c0 (Inner n)
-  led_cut above new root' leads turns m x is =
-      turned_node s.front_of mid new root root' c0 (Inner n) (λ m. IsSome (nodes m)) s.apart above (leads_made cut mid root above c0 n depth prefix low high leads makes) (above_live above leads) turns m x (uncut_live m x is) (makes.others m (off_new m x is) ∙ is)
+    -- the edge above is that of the root, or of a node
+    hangs : Hangs nodes root root' c0 (Inner n) above
+    hangs = above_cases nodes mid new root root' above c0 (Inner n) leads turns
 
-  made_after : (above : Option (ℕ × ℕ)) (new : ℕ → Option Node) (root' : Option Child) → LeadsTo cut root above c0 → TurnsTo mid new root root' above (Inner n) → new n ≡ Some made
-  made_after None new root' leads turns = turns.0 n ∙ makes.is
-  made_after (Some (p, b)) new root' leads turns = turns.0.others n (λ e. off_new p leads.0 leads.1 (sym e)) ∙ makes.is
+    -- the edge still leads to the child after the cut, and once the new node is made
+    leads_mid : LeadsTo mid root above c0
+    leads_mid = leads_made cut mid root above c0 n depth prefix low high (cut_leads P nodes cut s.front_of (t ++ next_byte t d.nearest_key ∷ []) c0 cuts root above c0 leads) makes
 
-  none_after : (above : Option (ℕ × ℕ)) (new : ℕ → Option Node) (root' : Option Child) → LeadsTo cut root above c0 → TurnsTo mid new root root' above (Inner n) → (m : ℕ) → m ≢ n → cut m ≡ None → new m ≡ None
-  none_after None new root' leads turns m off e = turns.0 m ∙ makes.others m off ∙ e
-  none_after (Some (p, b)) new root' leads turns m off e =
-      let far : m ≢ p = (λ z. let f : cut p ≡ None = ap cut (sym z) ∙ e in let g : cut p ≡ Some leads.0 = leads.1 in absurd cc) in
-      turns.0.others m far ∙ makes.others m off ∙ e
+    -- the change of a node
+    turned : (m : ℕ) (x : Node) → nodes m ≡ Some x → (x' : Node) × (new m ≡ Some x') × Turns x x' (s.front_of m) g0 c0 (Inner n)
+    turned m x is =
+        let y = cut_node P nodes cut s.front_of (t ++ next_byte t d.nearest_key ∷ []) c0 cuts m x is in
+        let z = turned_node s.front_of mid new root root' c0 (Inner n) (λ m. IsSome (nodes m)) s.apart above leads_mid (leads_live nodes root above c0 leads) turns m y.0 (is_some (nodes m) x is) (makes.others m (off_new m y.0 y.1) ∙ y.1) in
+        (z.0, z.1, turns_after x y.0 z.0 (s.front_of m) g0 c0 (Inner n) y.2.depth y.2.edges z.2)
 
-  above_after : (above : Option (ℕ × ℕ)) (new : ℕ → Option Node) (root' : Option Child) → LeadsTo nodes root above c0 → TurnsTo mid new root root' above (Inner n)
-      → ((edge_front s.front_of above ≡ []) × (root ≡ Some c0) × (root' ≡ Some (Inner n))) ⊎ ((p : ℕ) × (b : ℕ) × IsSome (nodes p) × (edge_front s.front_of above ≡ s.front_of p ++ b ∷ []) × (root' ≡ root))
-  above_after None new root' leads turns = inl (refl, leads, turns.1)
-  above_after (Some (p, b)) new root' leads turns = inr (p, b, is_some (nodes p) leads.0 leads.1, refl, turns.1)
+    made_is : new n ≡ Some made
+    made_is = turned_off mid new root root' above (Inner n) turns n (λ e is z. let l = leads_live nodes root above c0 leads e is in let f : nodes n ≡ None = fresh in let g : IsSome (nodes n) = subst (λ (j : ℕ). IsSome (nodes j)) (sym z) l in not_some (nodes n) f g) ∙ makes.is
 
-  module _ (above : Option (ℕ × ℕ)) (new : ℕ → Option Node) (root' : Option Child) (leads : LeadsTo nodes root above c0) (turns : TurnsTo mid new root root' above (Inner n)) (prefix_is : prefix ≡ take P (drop (length (edge_front s.front_of above)) t)) where
-    still : LeadsTo cut root above c0
-    still = cut_leads P nodes cut s.front_of (t ++ next_byte t d.nearest_key ∷ []) c0 cuts root above c0 leads
-
-    splits : Splits P nodes new s.front_of root root' (edge_front s.front_of above) c0 n i t (next_byte t d.nearest_key) (next_byte t k)
-    splits = record {
-      fresh = cut_free P nodes cut s.front_of (t ++ next_byte t d.nearest_key ∷ []) c0 cuts n makes.fresh;
-      made = made;
-      made_is = made_after above new root' still turns;
-      depth = deep;
-      ascends = (sorted, tt);
-      low = leaf_child;
-      high = nearest_child;
-      prefix = prefix_is;
-      only = only_children;
-      above = above_after above new root' leads turns;
-      others = λ m x is.
-          (let y = cut_node P nodes cut s.front_of (t ++ next_byte t d.nearest_key ∷ []) c0 cuts m x is in
-          let z = led_cut above new root' still turns m y.0 y.1 in
-          (z.0, z.1, turns_after x y.0 z.0 (s.front_of m) (edge_front s.front_of above) c0 (Inner n) y.2.depth y.2.edges z.2));
-      no_more = λ m off e. none_after above new root' still turns m off (cut_was P nodes cut s.front_of (t ++ next_byte t d.nearest_key ∷ []) c0 cuts m e);
-    }
-
-    prefix_led : (m : ℕ) (x x' : Node) → cut m ≡ Some x → new m ≡ Some x' → x'.prefix ≡ x.prefix
-    prefix_led m x x' was is = turned_prefix mid new root root' above (Inner n) turns m x x' (makes.others m (off_new m x was) ∙ was) is
+    no_more : (m : ℕ) → m ≢ n → nodes m ≡ None → new m ≡ None
+    no_more m off e = turned_free mid new root root' above (Inner n) turns m (makes.others m off ∙ cut_was P nodes cut s.front_of (t ++ next_byte t d.nearest_key ∷ []) c0 cuts m e)
 
     recut : Recut P nodes new s.front_of (t ++ next_byte t d.nearest_key ∷ []) c0
-    recut = record {
-      others = λ m x x' was is off. (let y = cut_node P nodes cut s.front_of (t ++ next_byte t d.nearest_key ∷ []) c0 cuts m x was in prefix_led m y.0 x' y.1 is ∙ y.2.other off);
-      own = λ m x x' was is same. (let y = cut_node P nodes cut s.front_of (t ++ next_byte t d.nearest_key ∷ []) c0 cuts m x was in prefix_led m y.0 x' y.1 is ∙ y.2.own same);
-    }
+    recut = recut_by P nodes cut new s.front_of (t ++ next_byte t d.nearest_key ∷ []) c0 cuts (λ m x x' was is. turned_prefix mid new root root' above (Inner n) turns m x x' (makes.others m (off_new m x was) ∙ was) is)
 
     -- only one edge leads to the child
     one : (a : Option (ℕ × ℕ)) (j : ℕ) → LeadsTo nodes root a (Inner j) → c0 ≡ Inner j → edge_front s.front_of a ≡ edge_front s.front_of above
     one a j l e = ap (edge_front s.front_of) (one_above keys nodes root s j a above l (subst (λ (c : Child). LeadsTo nodes root above c) e leads))
 
+    -- the fronts, with that of the new node
+    abbrev fronts_after : ℕ → Bytes
+    fronts_after m = cond (eqb m n) t (s.front_of m)
+
+    after-new : fronts_after n ≡ t
+    after-new = rw (eq-eqb n n refl) refl
+
+    after-old : (m : ℕ) → m ≢ n → fronts_after m ≡ s.front_of m
+    after-old m h = elim (eqb_tells m n) [ inl e ↦ absurd (h e.1) | inr e ↦ rw e.0 refl ]
+
+    not_new : (m : ℕ) → IsSome (nodes m) → m ≢ n
+    not_new m h e = let x = some_of (nodes m) h in let f : nodes n ≡ Some x.0 = rw (← e) x.1 in let g : nodes n ≡ None = fresh in cc
+
+    live_kept : (m : ℕ) → IsSome (nodes m) → IsSome (new m)
+    live_kept m h = let x = some_of (nodes m) h in let y = turned m x.0 x.1 in is_some (new m) y.0 y.1
+
+    live_new : IsSome (new n)
+    live_new = is_some (new n) made made_is
+
+    -- a child that covers a node whose front is a prefix of t is not past t
+    not_past_above : (m : ℕ) → IsSome (nodes m) → Begins (s.front_of m) t → (g : Bytes) (c : Child) → Covers keys nodes s.front_of g c → Begins g (s.front_of m) → Past s.front_of t c → ⊥
+    not_past_above m live mt g (Leaf j) cov gm far = above_leaf keys nodes root s m live g j cov gm
+    not_past_above m live mt g (Inner m') cov gm far =
+        let a : length (s.front_of m') ≤ length (s.front_of m) = Begins-length (s.front_of m') (s.front_of m) (above_node keys nodes root s m live g m' cov gm) in
+        let b : length (s.front_of m) ≤ length t = Begins-length (s.front_of m) t mt in
+        let f : length t < length (s.front_of m') = far in
+        omega arith
+
+    -- no node had the front t
+    not_front : (m : ℕ) → IsSome (nodes m) → s.front_of m ≡ t → ⊥
+    not_front m live e =
+        let mt : Begins (s.front_of m) t = rw e (Begins-itself t) in
+        not_past_above m live mt g0 c0 covers0 (rw e g0_t) past
+
+    -- the child of an edge toward t other than the split one is not past t
+    not_past_edge : (m : ℕ) → IsSome (nodes m) → (b : ℕ) (c : Child) → Covers keys nodes s.front_of (s.front_of m ++ b ∷ []) c → s.front_of m ++ b ∷ [] ≢ g0 → Begins (s.front_of m ++ b ∷ []) t → Past s.front_of t c → ⊥
+    not_past_edge m live b c cov other gt far =
+        let f : Bytes = s.front_of m in
+        let g : Bytes = f ++ b ∷ [] in
+        elim (cases_lt (length g0) (length g)) [
+          | inl lt ↦
+              let le : length g ≡ length f + 1 = length-append f (b ∷ []) in
+              let ft : Begins f t = Begins-edge_front f t b gt in
+              not_past_above m live ft g0 c0 covers0 (Begins-linear g0 f t g0_t ft (omega arith)) past
+          | inr ge ↦
+              elim hangs [
+                | inl a ↦
+                    let z : length g0 ≡ 0 = ap (λ (z : Option (ℕ × ℕ)). length (edge_front s.front_of z)) a.0 in
+                    let le : length g ≡ length f + 1 = length-append f (b ∷ []) in
+                    absurd (omega arith)
+                | inr a ↦
+                    let f0 : Bytes = s.front_of a.0.0 in
+                    let e : g0 ≡ f0 ++ a.0.1 ∷ [] = ap (edge_front s.front_of) a.1 in
+                    let le0 : length g0 ≡ length f0 + 1 = ap length e ∙ length-append f0 (a.0.1 ∷ []) in
+                    let f0t : Begins f0 t = Begins-edge_front f0 t a.0.1 (rw (← e) g0_t) in
+                    elim (cases_lt (length g) (length g0)) [
+                      | inl lt ↦ not_past_above a.0.0 a.2 f0t g c cov (Begins-linear g f0 t gt f0t (omega arith)) far
+                      | inr same ↦ other (Begins-equal g g0 (Begins-linear g g0 t gt g0_t ge) same)
+                    ]
+              ]
+        ]
+
+    nearest_at : (j : ℕ) (l : Bytes) → keys j ≡ Some l → j ≡ d.nearest → l ≡ d.nearest_key
+    nearest_at j l is e = let f : keys d.nearest ≡ Some l = rw (← e) is in let g : keys d.nearest ≡ Some d.nearest_key = d.nearest_is in cc
+
+    nearest_g0 : Begins g0 d.nearest_key
+    nearest_g0 = Begins-trans g0 t d.nearest_key g0_t d.nearest_front
+
+    -- a key below the split edge begins with t, and continues as the nearest key does
+    below_g0 : (c : Child) → c ≡ c0 → Covers keys nodes s.front_of g0 c → Past s.front_of t c → (j : ℕ) (l : Bytes) → keys j ≡ Some l → Begins g0 l → Begins (t ++ next_byte t d.nearest_key ∷ []) l
+    below_g0 (Leaf j0) e cov far j l is b =
+        let a : j ≡ j0 = cov.only j l is b in
+        let h : d.nearest ≡ j0 = cov.only d.nearest d.nearest_key d.nearest_is nearest_g0 in
+        rw (nearest_at j l is (a ∙ sym h)) (Begins-more t d.nearest_key d.nearest_front d.nearest_longer)
+    below_g0 (Inner m0) e cov far j l is b =
+        let a : Begins (s.front_of m0) l = cov.only j l is b in
+        let h : Begins (s.front_of m0) d.nearest_key = cov.only d.nearest d.nearest_key d.nearest_is nearest_g0 in
+        Begins-trans (t ++ next_byte t d.nearest_key ∷ []) (s.front_of m0) l (Begins-past t (s.front_of m0) d.nearest_key d.nearest_front h far) a
+
+    under_g0 : (j : ℕ) (l : Bytes) → keys j ≡ Some l → Begins g0 l → Begins (t ++ next_byte t d.nearest_key ∷ []) l
+    under_g0 j l is b = below_g0 c0 refl covers0 past j l is b
+
+    -- k continues from t with another byte than the nearest key
+    not_nearest : Begins (t ++ next_byte t d.nearest_key ∷ []) k → ⊥
+    not_nearest b =
+        let e : next_byte t k ≡ next_byte t d.nearest_key = Begins-next t k (next_byte t d.nearest_key) b in
+        d.alone d.nearest d.nearest_key d.nearest_is (rw e (Begins-more t d.nearest_key d.nearest_front d.nearest_longer))
+
+    leaf_kept : (g : Bytes) (j : ℕ) → (Begins g t → ⊥) → CoversLeaf keys g j → CoversLeaf keys' g j
+    leaf_kept g j far c = record {
+      key = c.key;
+      is = kept keys keys' i k gains j c.key c.is;
+      front = c.front;
+      only = λ j' l e b.
+          elim (kept_cases keys keys' i k gains j' l e) [
+            | inl o ↦ c.only j' l o b
+            | inr o ↦
+                let gk : Begins g k = rw (← o.1) b in
+                absurd (far (within keys nodes s.front_of t k d g j c.key c.is c.front gk))
+          ];
+    }
+
+    node_kept : (g : Bytes) (m : ℕ) → (Begins g t → length t < length (s.front_of m) → ⊥) → CoversNode keys nodes s.front_of g m → CoversNode keys' new fronts_after g m
+    node_kept g m far c =
+        let e : fronts_after m ≡ s.front_of m = after-old m (not_new m c.live) in
+        record {
+          live = live_kept m c.live;
+          front = rw e c.front;
+          only = λ j' l is b. rw e (
+              elim (kept_cases keys keys' i k gains j' l is) [
+                | inl o ↦ c.only j' l o b
+                | inr o ↦
+                    let x = some_of (nodes m) c.live in
+                    let q = (s.node m x.0 x.1).parts in
+                    let gk : Begins g k = rw (← o.1) b in
+                    let gt : Begins g t = within keys nodes s.front_of t k d g q.i q.k q.k_is (Begins-trans g (s.front_of m) q.k c.front q.k_front) gk in
+                    elim (cases_lt (length t) (length (s.front_of m))) [
+                      | inl lt ↦ absurd (far gt lt)
+                      | inr le ↦
+                          let a : Begins (s.front_of m) d.nearest_key = c.only d.nearest d.nearest_key d.nearest_is (Begins-trans g t d.nearest_key gt d.nearest_front) in
+                          rw o.1 (Begins-trans (s.front_of m) t k (Begins-linear (s.front_of m) t d.nearest_key a d.nearest_front le) d.front)
+                    ]
+              ]);
+        }
+
+    edge_kept : (g : Bytes) (c : Child) → (Begins g t → Past s.front_of t c → ⊥) → Covers keys nodes s.front_of g c → Covers keys' new fronts_after g c
+    edge_kept g (Leaf j) far c = leaf_kept g j (λ b. far b tt) c
+    edge_kept g (Inner m) far c = node_kept g m far c
+
+    new_node : CoversNode keys' new fronts_after g0 n
+    new_node = record {
+      live = live_new;
+      front = rw after-new g0_t;
+      only = λ j l e b. rw after-new (
+          elim (kept_cases keys keys' i k gains j l e) [
+            | inl o ↦ Begins-edge_front t l (next_byte t d.nearest_key) (under_g0 j l o b)
+            | inr o ↦ rw o.1 d.front
+          ]);
+    }
+
+    new_leaf : CoversLeaf keys' (t ++ next_byte t k ∷ []) i
+    new_leaf = record {
+      key = k;
+      is = gains.has;
+      front = Begins-more t k d.front d.longer;
+      only = λ j l e b. elim (kept_cases keys keys' i k gains j l e) [ inl o ↦ absurd (d.alone j l o b) | inr o ↦ o.0 ];
+    }
+
+    -- the old child, below the new node
+    old_child : (c : Child) → c ≡ c0 → Covers keys nodes s.front_of g0 c → Past s.front_of t c → Covers keys' new fronts_after (t ++ next_byte t d.nearest_key ∷ []) c
+    old_child (Leaf j0) e cov far = record {
+      key = cov.key;
+      is = kept keys keys' i k gains j0 cov.key cov.is;
+      front = under_g0 j0 cov.key cov.is cov.front;
+      only = λ j l is b.
+          elim (kept_cases keys keys' i k gains j l is) [
+            | inl o ↦ cov.only j l o (Begins-trans g0 t l g0_t (Begins-edge_front t l (next_byte t d.nearest_key) b))
+            | inr o ↦ absurd (not_nearest (rw (← o.1) b))
+          ];
+    }
+    old_child (Inner m0) e cov far =
+        let e : fronts_after m0 ≡ s.front_of m0 = after-old m0 (not_new m0 cov.live) in
+        let h : Begins (s.front_of m0) d.nearest_key = cov.only d.nearest d.nearest_key d.nearest_is nearest_g0 in
+        record {
+          live = live_kept m0 cov.live;
+          front = rw e (Begins-past t (s.front_of m0) d.nearest_key d.nearest_front h far);
+          only = λ j l is b. rw e (
+              elim (kept_cases keys keys' i k gains j l is) [
+                | inl o ↦ cov.only j l o (Begins-trans g0 t l g0_t (Begins-edge_front t l (next_byte t d.nearest_key) b))
+                | inr o ↦ absurd (not_nearest (rw (← o.1) b))
+              ]);
+        }
+
+    bytes_differ : next_byte t k ≢ next_byte t d.nearest_key
+    bytes_differ e = d.alone d.nearest d.nearest_key d.nearest_is (rw e (Begins-more t d.nearest_key d.nearest_front d.nearest_longer))
+
+    new_parts : Parts keys' t
+    new_parts = record {
+      i = i;
+      j = d.nearest;
+      k = k;
+      l = d.nearest_key;
+      k_is = gains.has;
+      l_is = kept keys keys' i k gains d.nearest d.nearest_key d.nearest_is;
+      k_front = d.front;
+      l_front = d.nearest_front;
+      differ = bytes_differ;
+    }
+
+    new_fits : NodeFits keys' new fronts_after t made
+    new_fits = record {
+      depth = deep;
+      below = λ b c e.
+          elim (edges.2 b c e) [
+            | inl o ↦ rw (o.0, o.1) new_leaf
+            | inr o ↦ rw (o.0, o.1) (old_child c0 refl covers0 past)
+          ];
+      longer = λ j l e b.
+          elim (kept_cases keys keys' i k gains j l e) [
+            | inl o ↦
+                let a : length (t ++ next_byte t d.nearest_key ∷ []) ≤ length l = Begins-length _ l (under_g0 j l o (Begins-trans g0 t l g0_t b)) in
+                let le : length (t ++ next_byte t d.nearest_key ∷ []) ≡ length t + 1 = length-append t (next_byte t d.nearest_key ∷ []) in
+                omega arith
+            | inr o ↦ rw o.1 d.longer
+          ];
+      edge = λ j l e b.
+          elim (kept_cases keys keys' i k gains j l e) [
+            | inl o ↦ is_some (child_at made.edges (next_byte t l)) c0 (ap (child_at made.edges) (Begins-next t l (next_byte t d.nearest_key) (under_g0 j l o (Begins-trans g0 t l g0_t b))) ∙ edges.1)
+            | inr o ↦ is_some (child_at made.edges (next_byte t l)) (Leaf i) (ap (λ (l : Bytes). child_at made.edges (next_byte t l)) o.1 ∙ edges.0)
+          ];
+      parts = new_parts;
+      ascends = (sorted, tt);
+    }
+
+    -- an old front that is a prefix of k is shorter than t
+    shorter : (m : ℕ) (x : Node) → nodes m ≡ Some x → Begins (s.front_of m) k → length (s.front_of m) < length t
+    shorter m x is b =
+        let q = (s.node m x is).parts in
+        let mt : Begins (s.front_of m) t = within keys nodes s.front_of t k d (s.front_of m) q.i q.k q.k_is q.k_front b in
+        elim (cases_lt (length (s.front_of m)) (length t)) [
+          | inl h ↦ h
+          | inr h ↦ absurd (not_front m (is_some (nodes m) x is) (Begins-equal (s.front_of m) t mt h))
+        ]
+
+    old_fits : (m : ℕ) (x x' : Node) → nodes m ≡ Some x → Turns x x' (s.front_of m) g0 c0 (Inner n) → NodeFits keys' new fronts_after (s.front_of m) x'
+    old_fits m x x' is r =
+        let f : NodeFits keys nodes s.front_of (s.front_of m) x = s.node m x is in
+        let g : Bytes = s.front_of m in
+        let live : IsSome (nodes m) = is_some (nodes m) x is in
+        record {
+          depth = r.depth ∙ f.depth;
+          below = λ b c e.
+              elim (Bytes-cases (g ++ b ∷ []) g0) [
+                | inl at ↦
+                    let a : child_at x'.edges b ≡ Some (Inner n) = r.now b at in
+                    let h : c ≡ Inner n = cc in
+                    rw (at, h) new_node
+                | inr off ↦
+                    let a : child_at x.edges b ≡ Some c = sym (r.rest b off) ∙ e in
+                    edge_kept (g ++ b ∷ []) c (not_past_edge m live b c (f.below b c a) off) (f.below b c a)
+              ];
+          longer = λ j l e b.
+              elim (kept_cases keys keys' i k gains j l e) [
+                | inl o ↦ f.longer j l o b
+                | inr o ↦
+                    let gk : Begins g k = rw (← o.1) b in
+                    let h : length g < length t = shorter m x is gk in
+                    let h2 : length t < length k = d.longer in
+                    rw o.1 (omega arith)
+              ];
+          edge = λ j l e b.
+              let y : IsSome (child_at x.edges (next_byte g l)) = (elim (kept_cases keys keys' i k gains j l e) [
+                | inl o ↦ f.edge j l o b
+                | inr o ↦
+                    let gk : Begins g k = rw (← o.1) b in
+                    rw o.1 (edge_toward keys t k d g x.edges gk (shorter m x is gk) f.edge)
+              ]) in
+              elim (Bytes-cases (g ++ next_byte g l ∷ []) g0) [
+                | inl at ↦ is_some (child_at x'.edges (next_byte g l)) (Inner n) (r.now (next_byte g l) at)
+                | inr off ↦ let P : Option Child → Type 0 = λ o. IsSome o in subst P (sym (r.rest (next_byte g l) off)) y
+              ];
+          parts = Parts-kept keys keys' i k gains g f.parts;
+          ascends = r.ascends f.ascends;
+        }
+
+    was_live : (m : ℕ) (x : Node) → m ≢ n → new m ≡ Some x → (o : Option Node) → nodes m ≡ o → (w : Node) × (nodes m ≡ Some w)
+    was_live m x off is None e = let h : new m ≡ None = no_more m off e in absurd cc
+    was_live m x off is (Some w) e = (w, e)
+
+    node_fits : (m : ℕ) (x : Node) → new m ≡ Some x → NodeFits keys' new fronts_after (fronts_after m) x
+    node_fits m x is =
+        elim (eqb_tells m n) [
+          | inl e ↦
+              let f : new n ≡ Some made = made_is in
+              let g : new n ≡ Some x = rw (← e.1) is in
+              let h : made ≡ x = cc in
+              let z : fronts_after m ≡ t = ap fronts_after e.1 ∙ after-new in
+              subst (λ (f : Bytes). NodeFits keys' new fronts_after f x) (sym z) (subst (λ (x : Node). NodeFits keys' new fronts_after t x) h new_fits)
+          | inr e ↦
+              let w = was_live m x e.1 is (nodes m) refl in
+              let y = turned m w.0 w.1 in
+              let a : new m ≡ Some y.0 = y.1 in
+              let h : y.0 ≡ x = cc in
+              let z : fronts_after m ≡ s.front_of m = after-old m e.1 in
+              subst (λ (f : Bytes). NodeFits keys' new fronts_after f x) (sym z) (subst (λ (x : Node). NodeFits keys' new fronts_after (s.front_of m) x) h (old_fits m w.0 y.0 w.1 y.2))
+        ]
+
+    old_joined : (a b : ℕ) (x y : Bytes) → keys a ≡ Some x → keys b ≡ Some y → a ≢ b → (m : ℕ) × IsSome (new m) × (fronts_after m ≡ common x y)
+    old_joined a b x y ax by apart = let r = s.joined a b x y ax by apart in (r.0, live_kept r.0 r.1, after-old r.0 (not_new r.0 r.1) ∙ r.2)
+
+    joined_new : (j : ℕ) (l : Bytes) → keys j ≡ Some l → (m : ℕ) × IsSome (new m) × (fronts_after m ≡ common k l)
+    joined_new j l is =
+        elim (Begins-cases t l) [
+          | inl b ↦ (n, live_new, after-new ∙ sym (common_at t k l d.front d.longer b (d.alone j l is)))
+          | inr b ↦
+              let apart : d.nearest ≢ j = λ e. (let f : keys j ≡ Some d.nearest_key = rw (← e) d.nearest_is in let g : d.nearest_key ≡ l = cc in b (subst (λ (l : Bytes). Begins t l) g d.nearest_front)) in
+              let r = old_joined d.nearest j d.nearest_key l d.nearest_is is apart in
+              (r.0, r.1, r.2 ∙ sym (common_same t k d.nearest_key l d.front d.nearest_front b))
+        ]
+
+    top_kept : (r : Option Child) → root ≡ r → 0 < length g0 → RootFits keys' new fronts_after r
+    top_kept None e pos = λ j.
+        let h : RootFits keys nodes s.front_of None = subst (λ (r : Option Child). RootFits keys nodes s.front_of r) e s.top in
+        let a : keys d.nearest ≡ None = h d.nearest in
+        let b : keys d.nearest ≡ Some d.nearest_key = d.nearest_is in
+        absurd cc
+    top_kept (Some c) e pos =
+        let h : Covers keys nodes s.front_of [] c = subst (λ (r : Option Child). RootFits keys nodes s.front_of r) e s.top in
+        edge_kept [] c (λ b far.
+        elim hangs [
+          | inl a ↦ (let z : length g0 ≡ 0 = ap (λ (z : Option (ℕ × ℕ)). length (edge_front s.front_of z)) a.0 in omega arith)
+          | inr a ↦ (let e : g0 ≡ s.front_of a.0.0 ++ a.0.1 ∷ [] = ap (edge_front s.front_of) a.1 in not_past_above a.0.0 a.2 (Begins-edge_front (s.front_of a.0.0) t a.0.1 (rw (← e) g0_t)) [] c h tt far)
+        ]) h
+
+    top_fits : RootFits keys' new fronts_after root'
+    top_fits =
+        elim hangs [
+          | inl a ↦ rw a.2 (subst (λ (g : Bytes). CoversNode keys' new fronts_after g n) (ap (edge_front s.front_of) a.0) new_node)
+          | inr a ↦
+              let le : length g0 ≡ length (s.front_of a.0.0) + 1 = ap (λ (z : Option (ℕ × ℕ)). length (edge_front s.front_of z)) a.1 ∙ length-append (s.front_of a.0.0) (a.0.1 ∷ []) in
+              rw a.3 (top_kept root refl (omega arith))
+        ]
+
+    apart_new : (m : ℕ) → m ≢ n → IsSome (new m) → fronts_after m ≡ t → ⊥
+    apart_new m off live e =
+        let x = some_of (new m) live in
+        let w = was_live m x.0 off x.1 (nodes m) refl in
+        not_front m (is_some (nodes m) w.0 w.1) (sym (after-old m off) ∙ e)
+
+    -- an old edge to a node other than the child: the node keeps its prefix
+    kept_old : (a : Option (ℕ × ℕ)) (j : ℕ) (x' : Node) → LeadsTo nodes root a (Inner j) → (edge_front s.front_of a ≡ g0 → ⊥) → edge_front fronts_after a ≡ edge_front s.front_of a → new j ≡ Some x' → x'.prefix ≡ kept_prefix P fronts_after a j
+    kept_old a j x' l far e is =
+        let cov : CoversNode keys nodes s.front_of (edge_front s.front_of a) j = covers_above keys nodes root s a (Inner j) l in
+        let x = some_of (nodes j) cov.live in
+        keeps_as P s.front_of fronts_after a a j j x.0 x' (s.keeps a j x.0 l x.1) (recut.others j x.0 x' x.1 is (λ z. far (one a j l z))) e (after-old j (not_new j cov.live))
+
+    -- the new node keeps the bytes that its front has after the edge above
+    kept_made : (x' : Node) → new n ≡ Some x' → x'.prefix ≡ take P (drop (length g0) (fronts_after n))
+    kept_made x' is =
+        let f : new n ≡ Some made = made_is in
+        let z : x' ≡ made = cc in
+        ap (λ (x : Node). x.prefix) z ∙ prefix_is ∙ ap (λ (w : Bytes). take P (drop (length g0) w)) (sym after-new)
+
+    -- the same for the new node under another name
+    kept_at : (g : Bytes) (j : ℕ) (x' : Node) → Inner n ≡ Inner j → g ≡ g0 → new j ≡ Some x' → x'.prefix ≡ take P (drop (length g) (fronts_after j))
+    kept_at g j x' e same is =
+        let z : n ≡ j = cc in
+        subst (λ (k : ℕ). x'.prefix ≡ take P (drop (length g) (fronts_after k))) z (kept_made x' (ap new z ∙ is) ∙ ap (λ (w : Bytes). take P (drop (length w) (fronts_after n))) (sym same))
+
+    kept_split : Keeps P new root' fronts_after
+    kept_split None j x' l is =
+        elim hangs [
+          | inl a ↦ kept_at [] j x' (let e : Some (Inner n) ≡ Some (Inner j) = sym a.2 ∙ l in cc) (sym (ap (edge_front s.front_of) a.0)) is
+          | inr a ↦ kept_old None j x' (sym a.3 ∙ l) (λ e. edge_some (s.front_of a.0.0) a.0.1 (sym (e ∙ ap (edge_front s.front_of) a.1))) refl is
+        ]
+    kept_split (Some (q, b)) j x' l is =
+        elim (eqb_tells q n) [
+          | inl e ↦
+              let f : new n ≡ Some l.0 = ap new (sym e.1) ∙ l.1 in
+              let g : new n ≡ Some made = made_is in
+              let z : l.0 ≡ made = cc in
+              let front : fronts_after q ≡ t = ap fronts_after e.1 ∙ after-new in
+              elim (edges.2 b (Inner j) (ap (λ (x : Node). child_at x.edges b) (sym z) ∙ l.2)) [
+                | inl o ↦ (let w : Inner j ≡ Leaf i = o.1 in absurd cc)
+                | inr o ↦
+                    let cov : CoversNode keys nodes s.front_of g0 j = subst (λ (c : Child). Covers keys nodes s.front_of g0 c) (sym o.1) covers0 in
+                    let x = some_of (nodes j) cov.live in
+                    let own = recut.own j x.0 x' x.1 is (sym o.1) in
+                    own ∙ ap (λ (w : Bytes). take P (drop (length (t ++ next_byte t d.nearest_key ∷ [])) w)) (sym (after-old j (not_new j cov.live)))
+                    ∙ ap (λ (w : Bytes). take P (drop (length w) (fronts_after j))) (λ h. (sym front) h ++ (sym o.0) h ∷ [])
+              ]
+          | inr e ↦
+              let w = was_live q l.0 e.1 l.1 (nodes q) refl in
+              let y = turned q w.0 w.1 in
+              let f : new q ≡ Some y.0 = y.1 in
+              let g : new q ≡ Some l.0 = l.1 in
+              let z : l.0 ≡ y.0 = cc in
+              let there : child_at y.0.edges b ≡ Some (Inner j) = ap (λ (x : Node). child_at x.edges b) (sym z) ∙ l.2 in
+              let front : fronts_after q ++ b ∷ [] ≡ s.front_of q ++ b ∷ [] = ap (λ (u : Bytes). u ++ b ∷ []) (after-old q e.1) in
+              elim (Bytes-cases (s.front_of q ++ b ∷ []) g0) [
+                | inl at ↦ (let u : child_at y.0.edges b ≡ Some (Inner n) = y.2.now b at in kept_at (fronts_after q ++ b ∷ []) j x' (let v : Inner n ≡ Inner j = cc in v) (front ∙ at) is)
+                | inr off ↦ kept_old (Some (q, b)) j x' (w.0, w.1, sym (y.2.rest b off) ∙ there) off front is
+              ]
+        ]
+
     -- the tree if a new node has the old child and the new leaf, and the edge above leads to it
-    pub edge_split : Past s.front_of t c0 → Begins (edge_front s.front_of above) t → Shape P keys' new root'
-    edge_split past along = shape_split keys keys' nodes new root root' (edge_front s.front_of above) c0 n i t k s gains d splits along past (covers_above keys nodes root s above c0 leads) recut one
+    pub edge_split : Shape P keys' new root'
+    edge_split = record {
+      front_of = fronts_after;
+      top = top_fits;
+      node = node_fits;
+      joined = joined_more keys keys' i k gains new fronts_after old_joined joined_new;
+      apart = λ a b la lb e.
+          elim (eqb_tells a n) [
+            | inl p ↦
+                elim (eqb_tells b n) [
+                  | inl q ↦ p.1 ∙ sym q.1
+                  | inr q ↦ absurd (apart_new b q.1 lb (sym e ∙ ap fronts_after p.1 ∙ after-new))
+                ]
+            | inr p ↦
+                elim (eqb_tells b n) [
+                  | inl q ↦ absurd (apart_new a p.1 la (e ∙ ap fronts_after q.1 ∙ after-new))
+                  | inr q ↦
+                      let x = some_of (new a) la in
+                      let w = was_live a x.0 p.1 x.1 (nodes a) refl in
+                      let y = some_of (new b) lb in
+                      let v = was_live b y.0 q.1 y.1 (nodes b) refl in
+                      s.apart a b (is_some (nodes a) w.0 w.1) (is_some (nodes b) v.0 v.1) (sym (after-old a p.1) ∙ e ∙ after-old b q.1)
+                ]
+          ];
+      keeps = kept_split;
+    }
