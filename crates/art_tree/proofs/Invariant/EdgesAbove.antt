@@ -1,17 +1,17 @@
 -- The edge above a child, if the store changes.
-use Rattle.std.proofs.Common.{◌≡◌, ◌≢◌, ℕ, List, [], ◌∷◌, ◌++◌, refl, ap, sym, subst, inl, inr, ◌⊎◌, Option, Some, None, IsSome, ◌∙◌}
+use Rattle.std.proofs.Common.{◌≡◌, ◌≢◌, ◌<◌, ℕ, List, [], ◌∷◌, ◌++◌, length, refl, ap, sym, subst, inl, inr, ◌⊎◌, Option, Some, None, IsSome, ◌∙◌}
 use Rattle.std.proofs.lemmas.List.{same_from_push}
 use Rattle.std.proofs.lemmas.Bool.Decides.{eqb_tells}
 use Rattle.art_tree.specs.Invariant.EdgesAbove.{LeadsTo, TurnsTo, AscendsAt, edge_front}
-use Rattle.art_tree.specs.Begins.{Bytes}
+use Rattle.art_tree.specs.Begins.{Bytes, Begins, next_byte}
 use Rattle.art_kinds.specs.Nodes.{Node, Makes, Renames, Redirects}
 use Rattle.art_kinds.specs.Edges.{child_at, Ascends}
-use Rattle.art_tree.specs.Invariant.Shape.{Shape}
+use Rattle.art_tree.specs.Invariant.Shape.{Shape, Covers, NodeFits, Parts}
 use Rattle.art_kinds.specs.declared.records.ids.Child.{Child}
 use Rattle.art_kinds.specs.declared.records.ids.Child.TheVariants.{Inner}
 use Rattle.art_kinds.specs.declared.records.ids.Edge.{Edge}
-use Rattle.blart_keys.proofs.Options.{is_some}
-use Rattle.art_tree.proofs.BeginsLemmas.{edge_some}
+use Rattle.blart_keys.proofs.Options.{is_some, same_some}
+use Rattle.art_tree.proofs.BeginsLemmas.{edge_some, Bytes-cases}
 use Rattle.art_tree.proofs.Invariant.OneEdge.{not_itself, kept_mid}
 
 -- if the edge's node is unchanged
@@ -126,4 +126,33 @@ turns_after x y z f g0 c to depth edges t = record {
   rest = λ b h. t.rest b h ∙ ap (λ (es : List Edge). child_at es b) edges;
   was = λ b h. ap (λ (es : List Edge). child_at es b) (sym edges) ∙ t.was b h;
   now = t.now;
+}
+
+-- a node, with what relates it to the one that it was, if none came
+pub came_from : (R : Node → Node → Type 0) (old new : Option Node) → ((x : Node) → old ≡ Some x → (x' : Node) × (new ≡ Some x') × R x x') → (old ≡ None → new ≡ None) → (x' : Node) → new ≡ Some x' → (x : Node) × (old ≡ Some x) × R x x'
+came_from R None new change none x' is = let f : new ≡ None = none refl in absurd cc
+came_from R (Some x) new change none x' is =
+    let y = change x refl in
+    let f : new ≡ Some y.0 = y.1 in
+    let z : y.0 ≡ x' = cc in
+    (x, refl, subst (λ (n : Node). R x n) z y.2)
+
+-- a node whose edge was redirected fits other keys, if its children do
+pub turned_fits : (keys keys' : ℕ → Option Bytes) (nodes nodes' : ℕ → Option Node) (fronts fronts' : ℕ → Bytes) (x x' : Node) (g g0 : Bytes) (c0 c1 : Child) → Turns x x' g g0 c0 c1 → NodeFits keys nodes fronts g x → Covers keys' nodes' fronts' g0 c1
+    → ((b : ℕ) (c : Child) → g ++ b ∷ [] ≢ g0 → child_at x.edges b ≡ Some c → Covers keys' nodes' fronts' (g ++ b ∷ []) c) → ((j : ℕ) (l : Bytes) → keys' j ≡ Some l → Begins g l → (length g < length l) × IsSome (child_at x.edges (next_byte g l))) → Parts keys' g → NodeFits keys' nodes' fronts' g x'
+turned_fits keys keys' nodes nodes' fronts fronts' x x' g g0 c0 c1 r f to rest key parts = record {
+  depth = r.depth ∙ f.depth;
+  below = λ b c e.
+      elim (Bytes-cases (g ++ b ∷ []) g0) [
+        | inl at ↦ (let a : child_at x'.edges b ≡ Some c1 = r.now b at in let h : c ≡ c1 = cc in rw (at, h) to)
+        | inr far ↦ rest b c far (sym (r.rest b far) ∙ e)
+      ];
+  longer = λ j l e h. (key j l e h).0;
+  edge = λ j l e h.
+      elim (Bytes-cases (g ++ next_byte g l ∷ []) g0) [
+        | inl at ↦ is_some (child_at x'.edges (next_byte g l)) c1 (r.now (next_byte g l) at)
+        | inr far ↦ same_some (child_at x.edges (next_byte g l)) (child_at x'.edges (next_byte g l)) (sym (r.rest (next_byte g l) far)) (key j l e h).1
+      ];
+  parts = parts;
+  ascends = r.ascends f.ascends;
 }

@@ -1,17 +1,17 @@
 -- Another key under a leaf's number, related to its old key and to no other.
-use Rattle.std.proofs.Common.{◌≡◌, ◌≢◌, ℕ, ◌<◌, [], ◌∷◌, ◌++◌, length, refl, ap, arith, sym, subst, Option, Some, None, ◌∙◌, ◌⊎◌, inl, inr}
+use Rattle.std.proofs.Common.{◌≡◌, ◌≢◌, ℕ, ◌<◌, [], ◌∷◌, ◌++◌, length, refl, ap, arith, sym, subst, Option, Some, ◌∙◌, ◌⊎◌, inl, inr}
 use Rattle.std.proofs.lemmas.Bool.{cases_lt}
 use Rattle.std.proofs.lemmas.Bool.Decides.{eqb_tells}
 use Rattle.blart_keys.specs.Bytes.{common}
 use Rattle.art_tree.specs.Begins.{Bytes, Begins, next_byte}
 use Rattle.art_kinds.specs.Nodes.{Node}
 use Rattle.art_kinds.specs.Edges.{child_at}
-use Rattle.art_tree.specs.Invariant.Shape.{Shape, Covers, CoversLeaf, CoversNode, NodeFits, RootFits, Parts}
+use Rattle.art_tree.specs.Invariant.Shape.{Shape, Covers, CoversLeaf, CoversNode, NodeFits, Parts}
 use Rattle.art_kinds.specs.declared.records.ids.Child.{Child}
 use Rattle.art_kinds.specs.declared.records.ids.Child.TheVariants.{Leaf, Inner}
 use Rattle.blart_keys.proofs.Options.{some_of, same_some}
 use Rattle.art_tree.proofs.BeginsLemmas.{Begins-length, Begins-more, Begins-trans, Begins-linear, Begins-equal, Begins-next, Begins-edge_front, common-left, common-right, common-greatest, common_comm}
-use Rattle.art_tree.proofs.Invariant.Growing.{Parts-two}
+use Rattle.art_tree.proofs.Invariant.Growing.{Parts-two, Parts-instead, top_from}
 use Rattle.art_tree.proofs.Invariant.SmallShapes.{unrelated}
 use Rattle.art_tree.proofs.NumberedPairs.KeyChanges.{Exchanges}
 
@@ -147,7 +147,7 @@ module _ {P : ℕ} (keys keys' : ℕ → Option Bytes) (nodes : ℕ → Option N
 
   -- a key with the same next byte
   instead : (n : ℕ) (x : Node) → nodes n ≡ Some x → (j : ℕ) (l : Bytes) → keys j ≡ Some l → Begins (s.front_of n) l
-      → (l' : Bytes) × (keys' j ≡ Some l') × Begins (s.front_of n) l' × (next_byte (s.front_of n) l' ≡ next_byte (s.front_of n) l)
+      → (j' : ℕ) × (l' : Bytes) × (keys' j' ≡ Some l') × Begins (s.front_of n) l' × (next_byte (s.front_of n) l' ≡ next_byte (s.front_of n) l)
   instead n x x_is j l is b =
       elim (eqb_tells j i) [
         | inl e ↦
@@ -155,16 +155,13 @@ module _ {P : ℕ} (keys keys' : ℕ → Option Bytes) (nodes : ℕ → Option N
             let c : keys i ≡ Some k = ex.was in
             let h : l ≡ k = cc in
             let fk' : Begins (s.front_of n) k' = new_here n x x_is (rw (← h) b) in
-            (k', ap keys' e.1 ∙ ex.now, fk', new_next n x x_is fk' ∙ ap (next_byte (s.front_of n)) (sym h))
-        | inr e ↦ (l, kept j l is e.1, b, refl)
+            (j, k', ap keys' e.1 ∙ ex.now, fk', new_next n x x_is fk' ∙ ap (next_byte (s.front_of n)) (sym h))
+        | inr e ↦ (j, l, kept j l is e.1, b, refl)
       ]
 
   fits_kept : (n : ℕ) (x : Node) → nodes n ≡ Some x → NodeFits keys' nodes s.front_of (s.front_of n) x
   fits_kept n x x_is =
       let f : NodeFits keys nodes s.front_of (s.front_of n) x = s.node n x x_is in
-      let p = f.parts in
-      let u = instead n x x_is p.i p.k p.k_is p.k_front in
-      let v = instead n x x_is p.j p.l p.l_is p.l_front in
       record {
         depth = f.depth;
         below = λ b c e. covers_kept (s.front_of n ++ b ∷ []) c (below_new n x x_is b, below_old n x x_is b) (f.below b c e);
@@ -181,7 +178,7 @@ module _ {P : ℕ} (keys keys' : ℕ → Option Bytes) (nodes : ℕ → Option N
                   let e : next_byte (s.front_of n) l ≡ next_byte (s.front_of n) k = ap (next_byte (s.front_of n)) o.1 ∙ new_next n x x_is fk' in
                   same_some (child_at x.edges (next_byte (s.front_of n) k)) (child_at x.edges (next_byte (s.front_of n) l)) (ap (child_at x.edges) (sym e)) (f.edge i k ex.was (old_here n x x_is fk'))
             ];
-        parts = record { i = p.i; j = p.j; k = u.0; l = v.0; k_is = u.1; l_is = v.1; k_front = u.2; l_front = v.2; differ = λ e. p.differ (sym u.3 ∙ e ∙ v.3) };
+        parts = Parts-instead keys keys' (s.front_of n) (instead n x x_is) f.parts;
         ascends = f.ascends;
       }
 
@@ -192,19 +189,11 @@ module _ {P : ℕ} (keys keys' : ℕ → Option Bytes) (nodes : ℕ → Option N
       let b : Begins (common k' l) (common k l) = common-greatest (common k' l) k l (to_old (common k' l) j l is off (common-right k' l) (common-left k' l)) (common-right k' l) in
       Begins-equal (common k l) (common k' l) a (Begins-length (common k' l) (common k l) b)
 
-  top_kept : (r : Option Child) → root ≡ r → RootFits keys' nodes s.front_of r
-  top_kept None e =
-      let h : RootFits keys nodes s.front_of None = subst (λ (r : Option Child). RootFits keys nodes s.front_of r) e s.top in
-      let a : keys i ≡ None = h i in
-      let b : keys i ≡ Some k = ex.was in
-      absurd cc
-  top_kept (Some c) e = covers_kept [] c ((λ b. tt), (λ b. tt)) (subst (λ (r : Option Child). RootFits keys nodes s.front_of r) e s.top)
-
   -- the tree with the key exchanged
   pub shape_exchanged : Shape P keys' nodes root
   shape_exchanged = record {
     front_of = s.front_of;
-    top = top_kept root refl;
+    top = top_from keys keys' nodes nodes root s s.front_of i k ex.was (λ c e h. covers_kept [] c ((λ b. tt), (λ b. tt)) h);
     node = fits_kept;
     joined = λ a b x y ax by off.
         elim (was_cases a x ax) [

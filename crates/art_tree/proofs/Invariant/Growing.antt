@@ -12,7 +12,7 @@ pub use Rattle.art_tree.specs.Calls.Placing.{Gains}
 use Rattle.art_kinds.specs.declared.records.ids.Child.{Child}
 use Rattle.art_kinds.specs.declared.records.ids.Child.TheVariants.{Leaf, Inner}
 use Rattle.art_kinds.specs.declared.records.ids.Edge.{Edge}
-use Rattle.blart_keys.proofs.Options.{some_of}
+use Rattle.blart_keys.proofs.Options.{is_some, some_of}
 use Rattle.art_tree.proofs.Invariant.Prefixes.{keeps_changed, live_after, live_before}
 use Rattle.art_tree.proofs.BeginsLemmas.{Begins-more, Begins-trans, Begins-linear, Begins-past, next_byte-front, Begins-equal, Begins-cases, common_same, common_at, common_comm}
 
@@ -26,6 +26,21 @@ pub record Departs (keys : ℕ → Option Bytes) (t k : Bytes) : Type 0 where
   pub nearest_is : keys nearest ≡ Some nearest_key
   pub nearest_front : Begins t nearest_key
   pub nearest_longer : length t < length nearest_key
+
+-- two keys part at t, if each old key has one with the same next byte in its place
+pub Parts-instead : (old new : ℕ → Option Bytes) (t : Bytes) → ((j : ℕ) (l : Bytes) → old j ≡ Some l → Begins t l → (j' : ℕ) × (l' : Bytes) × (new j' ≡ Some l') × Begins t l' × (next_byte t l' ≡ next_byte t l)) → Parts old t → Parts new t
+Parts-instead old new t instead q =
+    let u = instead q.i q.k q.k_is q.k_front in
+    let v = instead q.j q.l q.l_is q.l_front in
+    record { i = u.0; j = v.0; k = u.1; l = v.1; k_is = u.2; l_is = v.2; k_front = u.3; l_front = v.3; differ = λ e. q.differ (sym u.4 ∙ e ∙ v.4) }
+
+-- all keys are below the root, if its child still covers them, and there were some
+pub top_from : {P : ℕ} → (keys keys' : ℕ → Option Bytes) (nodes nodes' : ℕ → Option Node) (root : Option Child) (s : Shape P keys nodes root) (fronts : ℕ → Bytes) (i : ℕ) (k : Bytes) → keys i ≡ Some k → ((c : Child) → root ≡ Some c → Covers keys nodes s.front_of [] c → Covers keys' nodes' fronts [] c) → RootFits keys' nodes' fronts root
+top_from keys keys' nodes nodes' root s fronts i k is covered = go root refl s.top
+  where
+    go : (r : Option Child) → root ≡ r → RootFits keys nodes s.front_of r → RootFits keys' nodes' fronts r
+    go None e h = λ j. absurd (let f : None ≡ Some k = sym (h i) ∙ is in cc)
+    go (Some c) e h = covered c e h
 
 module _ (old new : ℕ → Option Bytes) (i : ℕ) (k : Bytes) (gains : Gains old new i k) where
   pub kept : (j : ℕ) (l : Bytes) → old j ≡ Some l → new j ≡ Some l
@@ -47,7 +62,7 @@ module _ (old new : ℕ → Option Bytes) (i : ℕ) (k : Bytes) (gains : Gains o
       ]
 
   -- if each two old keys part at a node, and the new key and each old one, each two new keys do
-  pub joined_more : (nodes : ℕ → Option Node) (fronts : ℕ → Bytes)
+  joined_more : (nodes : ℕ → Option Node) (fronts : ℕ → Bytes)
       → ((a b : ℕ) (x y : Bytes) → old a ≡ Some x → old b ≡ Some y → a ≢ b → (m : ℕ) × IsSome (nodes m) × (fronts m ≡ common x y))
       → ((j : ℕ) (l : Bytes) → old j ≡ Some l → (m : ℕ) × IsSome (nodes m) × (fronts m ≡ common k l))
       → (a b : ℕ) (x y : Bytes) → new a ≡ Some x → new b ≡ Some y → a ≢ b → (m : ℕ) × IsSome (nodes m) × (fronts m ≡ common x y)
@@ -67,7 +82,7 @@ module _ (old new : ℕ → Option Bytes) (i : ℕ) (k : Bytes) (gains : Gains o
 
 module _ (keys : ℕ → Option Bytes) (t k : Bytes) (d : Departs keys t k) where
   -- a prefix of k shorter than t has an edge toward k, the same as toward the nearest key
-  pub edge_toward : (g : Bytes) (edges : List Edge) → Begins g k → length g < length t → ((j : ℕ) (l : Bytes) → keys j ≡ Some l → Begins g l → IsSome (child_at edges (next_byte g l))) → IsSome (child_at edges (next_byte g k))
+  edge_toward : (g : Bytes) (edges : List Edge) → Begins g k → length g < length t → ((j : ℕ) (l : Bytes) → keys j ≡ Some l → Begins g l → IsSome (child_at edges (next_byte g l))) → IsSome (child_at edges (next_byte g k))
   edge_toward g edges gk h edge =
       let gt : Begins g t = Begins-linear g t k gk d.front (omega arith) in
       let a : next_byte g t ≡ next_byte g k = next_byte-front g t k d.front h in
@@ -104,19 +119,45 @@ Parts-two keys t p j a b =
     let s : p.k ≡ p.l = cc in
     p.differ (ap (next_byte t) s)
 
-module _ (old new : ℕ → Option Bytes) (i : ℕ) (k : Bytes) (gains : Gains old new i k) where
-  pub Parts-kept : (t : Bytes) → Parts old t → Parts new t
-  Parts-kept t p = record {
-    i = p.i;
-    j = p.j;
-    k = p.k;
-    l = p.l;
-    k_is = kept old new i k gains p.i p.k p.k_is;
-    l_is = kept old new i k gains p.j p.l p.l_is;
-    k_front = p.k_front;
-    l_front = p.l_front;
-    differ = p.differ;
-  }
+module _ (keys keys' : ℕ → Option Bytes) (i : ℕ) (k : Bytes) (gains : Gains keys keys' i k) where
+  pub Parts-kept : (t : Bytes) → Parts keys t → Parts keys' t
+  Parts-kept t p = Parts-instead keys keys' t (λ j l e b. (j, l, kept keys keys' i k gains j l e, b, refl)) p
+
+  module _ (t : Bytes) (d : Departs keys t k) where
+    -- the new leaf has an edge from t
+    pub new_leaf : CoversLeaf keys' (t ++ next_byte t k ∷ []) i
+    new_leaf = record {
+      key = k;
+      is = gains.has;
+      front = Begins-more t k d.front d.longer;
+      only = λ j l e b. elim (kept_cases keys keys' i k gains j l e) [ inl o ↦ absurd (d.alone j l o b) | inr o ↦ o.0 ];
+    }
+
+    -- each key with the prefix g has an edge, if the old ones have, and g ends before k departs
+    pub key_on : (g : Bytes) (edges : List Edge) → (Begins g k → length g < length t) → ((j : ℕ) (l : Bytes) → keys j ≡ Some l → Begins g l → length g < length l) → ((j : ℕ) (l : Bytes) → keys j ≡ Some l → Begins g l → IsSome (child_at edges (next_byte g l)))
+        → (j : ℕ) (l : Bytes) → keys' j ≡ Some l → Begins g l → (length g < length l) × IsSome (child_at edges (next_byte g l))
+    key_on g edges shorter longer edge j l e b =
+        elim (kept_cases keys keys' i k gains j l e) [
+          | inl o ↦ (longer j l o b, edge j l o b)
+          | inr o ↦
+              let gk : Begins g k = rw (← o.1) b in
+              let h : length g < length t = shorter gk in
+              let h2 : length t < length k = d.longer in
+              rw o.1 (omega arith, edge_toward keys t k d g edges gk h edge)
+        ]
+
+    -- each two keys part at a node, if each two old ones do, and a node has the front t
+    pub joined_on : (nodes : ℕ → Option Node) (fronts : ℕ → Bytes) (n : ℕ) → IsSome (nodes n) → fronts n ≡ t → ((a b : ℕ) (x y : Bytes) → keys a ≡ Some x → keys b ≡ Some y → a ≢ b → (m : ℕ) × IsSome (nodes m) × (fronts m ≡ common x y))
+        → (a b : ℕ) (x y : Bytes) → keys' a ≡ Some x → keys' b ≡ Some y → a ≢ b → (m : ℕ) × IsSome (nodes m) × (fronts m ≡ common x y)
+    joined_on nodes fronts n live front joined_old =
+        joined_more keys keys' i k gains nodes fronts joined_old (λ j l is.
+        elim (Begins-cases t l) [
+          | inl b ↦ (n, live, front ∙ sym (common_at t k l d.front d.longer b (d.alone j l is)))
+          | inr b ↦
+              let apart : d.nearest ≢ j = λ e. (let f : keys j ≡ Some d.nearest_key = rw (← e) d.nearest_is in let g : d.nearest_key ≡ l = cc in b (subst (λ (l : Bytes). Begins t l) g d.nearest_front)) in
+              let r = joined_old d.nearest j d.nearest_key l d.nearest_is is apart in
+              (r.0, r.1, r.2 ∙ sym (common_same t k d.nearest_key l d.front d.nearest_front b))
+        ])
 
 module _ {P : ℕ} (keys keys' : ℕ → Option Bytes) (nodes nodes' : ℕ → Option Node) (root : Option Child) (n i : ℕ) (k : Bytes) (s : Shape P keys nodes root)
     (gains : Gains keys keys' i k) (d : Departs keys (s.front_of n) k) (adds : AddsEdgeTo nodes nodes' n (next_byte (s.front_of n) k) (Leaf i)) where
@@ -190,33 +231,11 @@ module _ {P : ℕ} (keys keys' : ℕ → Option Bytes) (nodes nodes' : ℕ → O
       record {
         depth = f.depth;
         below = λ b c e. covers_kept (g ++ b ∷ []) c (f.below b c e);
-        longer = λ j l e b.
-            elim (kept_cases keys keys' i k gains j l e) [
-              | inl o ↦ f.longer j l o b
-              | inr o ↦
-                  let gk : Begins g k = rw (← o.1) b in
-                  let h : length g < length t = shorter_front m x is other gk in
-                  let h2 : length t < length k = d.longer in
-                  rw o.1 (omega arith)
-            ];
-        edge = λ j l e b.
-            elim (kept_cases keys keys' i k gains j l e) [
-              | inl o ↦ f.edge j l o b
-              | inr o ↦
-                  let gk : Begins g k = rw (← o.1) b in
-                  rw o.1 (edge_toward keys t k d g x.edges gk (shorter_front m x is other gk) f.edge)
-            ];
+        longer = λ j l e b. (key_on keys keys' i k gains t d g x.edges (shorter_front m x is other) f.longer f.edge j l e b).0;
+        edge = λ j l e b. (key_on keys keys' i k gains t d g x.edges (shorter_front m x is other) f.longer f.edge j l e b).1;
         parts = Parts-kept keys keys' i k gains g f.parts;
         ascends = f.ascends;
       }
-
-  new_leaf : CoversLeaf keys' (t ++ next_byte t k ∷ []) i
-  new_leaf = record {
-    key = k;
-    is = gains.has;
-    front = Begins-more t k d.front d.longer;
-    only = λ j l e b. elim (kept_cases keys keys' i k gains j l e) [ inl o ↦ absurd (d.alone j l o b) | inr o ↦ o.0 ];
-  }
 
   at_other : (b : ℕ) (c : Child) → b ≢ next_byte t k → child_at adds.is.edges b ≡ Some c → Covers keys' nodes' s.front_of (t ++ b ∷ []) c
   at_other b c other e = covers_kept (t ++ b ∷ []) c (fits.below b c (sym (adds.edges.rest b other) ∙ e))
@@ -225,7 +244,7 @@ module _ {P : ℕ} (keys keys' : ℕ → Option Bytes) (nodes nodes' : ℕ → O
   at_new c e =
       let f : child_at adds.is.edges (next_byte t k) ≡ Some (Leaf i) = adds.edges.added in
       let h : Leaf i ≡ c = cc in
-      subst (λ (c : Child). Covers keys' nodes' s.front_of (t ++ next_byte t k ∷ []) c) h new_leaf
+      subst (λ (c : Child). Covers keys' nodes' s.front_of (t ++ next_byte t k ∷ []) c) h (new_leaf keys keys' i k gains t d)
 
   fits_grown : NodeFits keys' nodes' s.front_of t adds.is
   fits_grown = record {
@@ -264,24 +283,6 @@ module _ {P : ℕ} (keys keys' : ℕ → Option Bytes) (nodes nodes' : ℕ → O
         | inr e ↦ fits_other m x (sym (adds.others m e.1) ∙ is) e.1
       ]
 
-  joined_new : (j : ℕ) (l : Bytes) → keys j ≡ Some l → (m : ℕ) × IsSome (nodes' m) × (s.front_of m ≡ common k l)
-  joined_new j l is =
-      elim (Begins-cases t l) [
-        | inl b ↦ (n, (let P : Option Node → Type 0 = λ o. IsSome o in subst P (sym adds.is_is) refl), sym (common_at t k l d.front d.longer b (d.alone j l is)))
-        | inr b ↦
-            let apart : d.nearest ≢ j = λ e. (let f : keys j ≡ Some d.nearest_key = rw (← e) d.nearest_is in let g : d.nearest_key ≡ l = cc in b (subst (λ (l : Bytes). Begins t l) g d.nearest_front)) in
-            let r = s.joined d.nearest j d.nearest_key l d.nearest_is is apart in
-            (r.0, live_kept r.0 r.1, r.2 ∙ sym (common_same t k d.nearest_key l d.front d.nearest_front b))
-      ]
-
-  top_fits : (r : Option Child) → root ≡ r → RootFits keys' nodes' s.front_of r
-  top_fits None e = λ j.
-      let h : RootFits keys nodes s.front_of None = subst (λ (r : Option Child). RootFits keys nodes s.front_of r) e s.top in
-      let a : keys d.nearest ≡ None = h d.nearest in
-      let b : keys d.nearest ≡ Some d.nearest_key = d.nearest_is in
-      absurd cc
-  top_fits (Some c) e = covers_kept [] c (subst (λ (r : Option Child). RootFits keys nodes s.front_of r) e s.top)
-
   -- an edge to a node was there before
   old_edge : (b j : ℕ) → child_at adds.is.edges b ≡ Some (Inner j) → child_at adds.was.edges b ≡ Some (Inner j)
   old_edge b j e =
@@ -294,9 +295,9 @@ module _ {P : ℕ} (keys keys' : ℕ → Option Bytes) (nodes nodes' : ℕ → O
   pub shape_added : Shape P keys' nodes' root
   shape_added = record {
     front_of = s.front_of;
-    top = top_fits root refl;
+    top = top_from keys keys' nodes nodes' root s s.front_of d.nearest d.nearest_key d.nearest_is (λ c e h. covers_kept [] c h);
     node = node_fits;
-    joined = joined_more keys keys' i k gains nodes' s.front_of (λ a b x y ax by apart. let r = s.joined a b x y ax by apart in (r.0, live_kept r.0 r.1, r.2)) joined_new;
+    joined = joined_on keys keys' i k gains t d nodes' s.front_of n (is_some (nodes' n) adds.is adds.is_is) refl (λ a b x y ax by apart. let r = s.joined a b x y ax by apart in (r.0, live_kept r.0 r.1, r.2));
     apart = λ a b la lb e. s.apart a b (live_was a la) (live_was b lb) e;
     keeps = keeps_changed nodes nodes' root n adds.was adds.is adds.was_is adds.is_is adds.others adds.prefix old_edge P s.front_of s.keeps;
   }

@@ -13,8 +13,8 @@ use Rattle.art_kinds.specs.declared.records.ids.Edge.{Edge}
 use Rattle.art_kinds.specs.declared.records.ids.Child.{Child}
 use Rattle.art_kinds.specs.declared.records.ids.Child.TheVariants.{Leaf, Inner}
 use Rattle.art_tree.proofs.BeginsLemmas.{Begins-length, Begins-more, Begins-trans, Begins-next, Begins-linear, Begins-equal, Begins-edge_front, Bytes-cases, common-left, common-greatest, common_comm}
-use Rattle.art_tree.proofs.Invariant.Growing.{Parts-two, covers_above}
-use Rattle.art_tree.proofs.Invariant.EdgesAbove.{Turns, turned_node, turned_free, turns_after, leads_live, Hangs, above_cases}
+use Rattle.art_tree.proofs.Invariant.Growing.{Parts-two, Parts-instead, covers_above, top_from}
+use Rattle.art_tree.proofs.Invariant.EdgesAbove.{Turns, turned_node, turned_free, turns_after, leads_live, Hangs, above_cases, came_from, turned_fits}
 use Rattle.art_tree.proofs.Invariant.OneEdge.{one_above}
 use Rattle.art_tree.proofs.Invariant.Prefixes.{keeps_changed, live_after, live_before, cut_node, cut_was, cut_leads, turned_prefix, Recut, recut_by}
 use Rattle.art_tree.proofs.Invariant.Subtrees.{above_leaf}
@@ -102,31 +102,15 @@ module _ {P : ℕ} (keys keys' : ℕ → Option Bytes) (nodes : ℕ → Option N
       (o.0, o.1, o.2, Begins-edge_front g o.1 (next_byte g l) o.3, Begins-next g o.1 (next_byte g l) o.3)
 
   parts_left : (m : ℕ) (x : Node) → nodes m ≡ Some x → m ≢ p → Parts keys' (s.front_of m)
-  parts_left m x is off =
-      let q = (s.node m x is).parts in
-      let u = instead m x is off q.i q.k q.k_is q.k_front in
-      let v = instead m x is off q.j q.l q.l_is q.l_front in
-      record {
-        i = u.0;
-        j = v.0;
-        k = u.1;
-        l = v.1;
-        k_is = u.2;
-        l_is = v.2;
-        k_front = u.3;
-        l_front = v.3;
-        differ = λ e. q.differ (sym u.4 ∙ e ∙ v.4);
-      }
+  parts_left m x is off = Parts-instead keys keys' (s.front_of m) (instead m x is off) (s.node m x is).parts
 
   -- the root covers the keys that are left, if its node does
-  top_left : (nodes' : ℕ → Option Node) → ((n : ℕ) → root ≡ Some (Inner n) → CoversNode keys nodes s.front_of [] n → CoversNode keys' nodes' s.front_of [] n) → (r : Option Child) → root ≡ r → RootFits keys' nodes' s.front_of r
-  top_left nodes' covered None e = λ j.
-      let h : RootFits keys nodes s.front_of None = subst (λ (r : Option Child). RootFits keys nodes s.front_of r) e s.top in
-      let a : keys i ≡ None = h i in
-      let f : keys i ≡ Some k = loses.was in
-      absurd cc
-  top_left nodes' covered (Some (Leaf j)) e = absurd (above_leaf keys nodes root s p live_p [] j (subst (λ (r : Option Child). RootFits keys nodes s.front_of r) e s.top) tt)
-  top_left nodes' covered (Some (Inner n)) e = covered n e (subst (λ (r : Option Child). RootFits keys nodes s.front_of r) e s.top)
+  top_left : (nodes' : ℕ → Option Node) → ((n : ℕ) → root ≡ Some (Inner n) → CoversNode keys nodes s.front_of [] n → CoversNode keys' nodes' s.front_of [] n) → RootFits keys' nodes' s.front_of root
+  top_left nodes' covered = top_from keys keys' nodes nodes' root s s.front_of i k loses.was below
+    where
+      below : (c : Child) → root ≡ Some c → Covers keys nodes s.front_of [] c → Covers keys' nodes' s.front_of [] c
+      below (Leaf j) e h = absurd (above_leaf keys nodes root s p live_p [] j h tt)
+      below (Inner n) e h = covered n e h
 
   -- ---- a node with three edges or more
 
@@ -243,7 +227,7 @@ module _ {P : ℕ} (keys keys' : ℕ → Option Bytes) (nodes : ℕ → Option N
     pub shape_dropped : Shape P keys' nodes' root
     shape_dropped = record {
       front_of = s.front_of;
-      top = top_left nodes' (λ n e c. node_stays [] n c) root refl;
+      top = top_left nodes' (λ n e c. node_stays [] n c);
       node = all_fit;
       joined = λ a c x y ax cy off. (let r = s.joined a c x y (was_key a x ax) (was_key c y cy) off in (r.0, still_live r.0 r.1, r.2));
       apart = λ a c la lc e. s.apart a c (then_live a la) (then_live c lc) e;
@@ -296,12 +280,8 @@ module _ {P : ℕ} (keys keys' : ℕ → Option Bytes) (nodes : ℕ → Option N
       not_p : (m : ℕ) (x : Node) → new m ≡ Some x → m ≢ p
       not_p m x is e = let f : new p ≡ Some x = ap new (sym e) ∙ is in let g : new p ≡ None = frees.gone in cc
 
-      was_live : (m : ℕ) (x : Node) → new m ≡ Some x → (w : Node) × (nodes m ≡ Some w)
-      was_live m x is = go (nodes m) refl
-        where
-          go : (o : Option Node) → nodes m ≡ o → (w : Node) × (nodes m ≡ Some w)
-          go None e = let f : new m ≡ None = frees.others m (not_p m x is) ∙ turned_free cut mid root root' above c1 turns m (cut_was P nodes cut s.front_of g0 c1 cuts m e) in absurd cc
-          go (Some w) e = (w, e)
+      back : (m : ℕ) (x' : Node) → new m ≡ Some x' → (x : Node) × (nodes m ≡ Some x) × Turns x x' (s.front_of m) g0 (Inner p) c1
+      back m x' is = came_from (λ x x'. Turns x x' (s.front_of m) g0 (Inner p) c1) (nodes m) (new m) (λ x e. turned m x (not_p m x' is) e) (λ e. frees.others m (not_p m x' is) ∙ turned_free cut mid root root' above c1 turns m (cut_was P nodes cut s.front_of g0 c1 cuts m e)) x' is
 
       recut : Recut P nodes new s.front_of g0 c1
       recut = recut_by P nodes cut new s.front_of g0 c1 cuts (λ m x x' was is. turned_prefix cut mid root root' above c1 turns m x x' was (sym (frees.others m (not_p m x' is)) ∙ is))
@@ -361,41 +341,15 @@ module _ {P : ℕ} (keys keys' : ℕ → Option Bytes) (nodes : ℕ → Option N
             only = λ j l e h. c.only j l (was_key j l e) (left_p j l e (covers0.only j l (was_key j l e) h));
           }
 
-      fits_left : (m : ℕ) (x x' : Node) → nodes m ≡ Some x → m ≢ p → Turns x x' (s.front_of m) g0 (Inner p) c1 → NodeFits keys' new s.front_of (s.front_of m) x'
-      fits_left m x x' is off r =
-          let g : Bytes = s.front_of m in
-          let f : NodeFits keys nodes s.front_of g x = s.node m x is in
-          record {
-            depth = r.depth ∙ f.depth;
-            below = λ b' c e.
-                elim (Bytes-cases (g ++ b' ∷ []) g0) [
-                  | inl at ↦
-                      let a : child_at x'.edges b' ≡ Some c1 = r.now b' at in
-                      let h : c ≡ c1 = cc in
-                      rw (at, h) (raised c1 (fits_p.below b1 c1 high))
-                  | inr far ↦
-                      let a : child_at x.edges b' ≡ Some c = sym (r.rest b' far) ∙ e in
-                      edge_kept m x is off b' c far a (f.below b' c a)
-                ];
-            longer = λ j l e h. f.longer j l (was_key j l e) h;
-            edge = λ j l e h.
-                let y : IsSome (child_at x.edges (next_byte g l)) = f.edge j l (was_key j l e) h in
-                elim (Bytes-cases (g ++ next_byte g l ∷ []) g0) [
-                  | inl at ↦ is_some (child_at x'.edges (next_byte g l)) c1 (r.now (next_byte g l) at)
-                  | inr far ↦ let P : Option Child → Type 0 = λ o. IsSome o in subst P (sym (r.rest (next_byte g l) far)) y
-                ];
-            parts = parts_left m x is off;
-            ascends = r.ascends f.ascends;
-          }
-
-      node_fits : (m : ℕ) (x : Node) → new m ≡ Some x → NodeFits keys' new s.front_of (s.front_of m) x
-      node_fits m x is =
-          let off : m ≢ p = not_p m x is in
-          let w = was_live m x is in
-          let y = turned m w.0 off w.1 in
-          let a : new m ≡ Some y.0 = y.1 in
-          let h : y.0 ≡ x = cc in
-          subst (λ (x : Node). NodeFits keys' new s.front_of (s.front_of m) x) h (fits_left m w.0 y.0 w.1 off y.2)
+      node_fits : (m : ℕ) (x' : Node) → new m ≡ Some x' → NodeFits keys' new s.front_of (s.front_of m) x'
+      node_fits m x' is =
+          let off : m ≢ p = not_p m x' is in
+          let w = back m x' is in
+          let f : NodeFits keys nodes s.front_of (s.front_of m) w.0 = s.node m w.0 w.1 in
+          turned_fits keys keys' nodes new s.front_of s.front_of w.0 x' (s.front_of m) g0 (Inner p) c1 w.2 f (raised c1 (fits_p.below b1 c1 high))
+          (λ b' c far a. edge_kept m w.0 w.1 off b' c far a (f.below b' c a))
+          (λ j l e h. (f.longer j l (was_key j l e) h, f.edge j l (was_key j l e) h))
+          (parts_left m w.0 w.1 off)
 
       joined_left : (a c : ℕ) (x y : Bytes) → keys' a ≡ Some x → keys' c ≡ Some y → a ≢ c → (m : ℕ) × IsSome (new m) × (s.front_of m ≡ common x y)
       joined_left a c x y ax cy apart =
@@ -419,19 +373,19 @@ module _ {P : ℕ} (keys keys' : ℕ → Option Bytes) (nodes : ℕ → Option N
       top_fits =
           elim hangs [
             | inl a ↦ rw a.2 (subst (λ (g : Bytes). Covers keys' new s.front_of g c1) (ap (edge_front s.front_of) a.0) (raised c1 (fits_p.below b1 c1 high)))
-            | inr a ↦ rw a.3 (top_left new (λ n e c. node_kept [] n (λ z. let f : None ≡ above = one_above keys nodes root s p None above (e ∙ ap (λ (n : ℕ). Some (Inner n)) z) leads in let g : above ≡ Some a.0 = a.1 in cc) c) root refl)
+            | inr a ↦ rw a.3 (top_left new (λ n e c. node_kept [] n (λ z. let f : None ≡ above = one_above keys nodes root s p None above (e ∙ ap (λ (n : ℕ). Some (Inner n)) z) leads in let g : above ≡ Some a.0 = a.1 in cc) c))
           ]
 
       -- the child that moved up keeps the bytes that its front has after the edge above
       kept_up : (g : Bytes) (j : ℕ) (x' : Node) → c1 ≡ Inner j → g ≡ g0 → new j ≡ Some x' → x'.prefix ≡ take P (drop (length g) (s.front_of j))
       kept_up g j x' e same is =
-          let w = was_live j x' is in
+          let w = back j x' is in
           recut.own j w.0 x' w.1 is e ∙ ap (λ (z : Bytes). take P (drop (length z) (s.front_of j))) (sym same)
 
       -- and each other node keeps its prefix
       kept_stays : (a : Option (ℕ × ℕ)) (j : ℕ) (x' : Node) → LeadsTo nodes root a (Inner j) → (a ≡ Some (p, b1) → ⊥) → new j ≡ Some x' → x'.prefix ≡ kept_prefix P s.front_of a j
       kept_stays a j x' l far is =
-          let w = was_live j x' is in
+          let w = back j x' is in
           recut.others j w.0 x' w.1 is (λ z. far (one_above keys nodes root s j a (Some (p, b1)) l (was, was_is, high ∙ ap (λ (c : Child). Some c) z))) ∙ s.keeps a j w.0 l w.1
 
       kept_merged : Keeps P new root' s.front_of
@@ -442,15 +396,11 @@ module _ {P : ℕ} (keys keys' : ℕ → Option Bytes) (nodes : ℕ → Option N
           ]
       kept_merged (Some (q, c)) j x' l is =
           let off : q ≢ p = not_p q l.0 l.1 in
-          let w = was_live q l.0 l.1 in
-          let y = turned q w.0 off w.1 in
-          let f : new q ≡ Some y.0 = y.1 in
-          let g : new q ≡ Some l.0 = l.1 in
-          let z : l.0 ≡ y.0 = cc in
-          let there : child_at y.0.edges c ≡ Some (Inner j) = ap (λ (x : Node). child_at x.edges c) (sym z) ∙ l.2 in
+          let w = back q l.0 l.1 in
+          let there : child_at l.0.edges c ≡ Some (Inner j) = l.2 in
           elim (Bytes-cases (s.front_of q ++ c ∷ []) g0) [
-            | inl at ↦ kept_up (s.front_of q ++ c ∷ []) j x' (let e : child_at y.0.edges c ≡ Some c1 = y.2.now c at in cc) at is
-            | inr far ↦ kept_stays (Some (q, c)) j x' (w.0, w.1, sym (y.2.rest c far) ∙ there) (λ e. off (let h : (q, c) ≡ (p, b1) = cc in ap (λ (w : ℕ × ℕ). w.0) h)) is
+            | inl at ↦ kept_up (s.front_of q ++ c ∷ []) j x' (let e : child_at l.0.edges c ≡ Some c1 = w.2.now c at in cc) at is
+            | inr far ↦ kept_stays (Some (q, c)) j x' (w.0, w.1, sym (w.2.rest c far) ∙ there) (λ e. off (let h : (q, c) ≡ (p, b1) = cc in ap (λ (w : ℕ × ℕ). w.0) h)) is
           ]
 
       -- the tree if the edge above a node with two edges leads to its other child, not to the node
@@ -462,9 +412,9 @@ module _ {P : ℕ} (keys keys' : ℕ → Option Bytes) (nodes : ℕ → Option N
         joined = joined_left;
         apart = λ a c la lc e.
             let x = some_of (new a) la in
-            let w = was_live a x.0 x.1 in
+            let w = back a x.0 x.1 in
             let y = some_of (new c) lc in
-            let v = was_live c y.0 y.1 in
+            let v = back c y.0 y.1 in
             s.apart a c (is_some (nodes a) w.0 w.1) (is_some (nodes c) v.0 v.1) e;
         keeps = kept_merged;
       }

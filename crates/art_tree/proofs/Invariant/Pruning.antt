@@ -1,27 +1,27 @@
 -- All keys below an edge but one are removed, and the leaf of that key replaces the child.
-use Rattle.std.proofs.Common.{◌≡◌, ◌≢◌, ℕ, ◌+◌, ◌≤◌, [], ◌∷◌, ◌++◌, length, refl, ap, arith, sym, subst, Option, Some, None, IsSome, ◌∙◌, inl, inr, length-append}
+use Rattle.std.proofs.Common.{◌≡◌, ◌≢◌, ℕ, ◌+◌, ◌≤◌, [], ◌∷◌, ◌++◌, length, refl, arith, sym, subst, Option, Some, None, IsSome, ◌∙◌, inl, inr, length-append}
 use Rattle.std.proofs.lemmas.Bool.{cases_lt}
 use Rattle.art_tree.specs.Begins.{Bytes, Begins, next_byte}
 use Rattle.blart_keys.specs.Bytes.{common}
 use Rattle.art_tree.specs.Invariant.EdgesAbove.{LeadsTo, TurnsTo, edge_front}
 use Rattle.art_kinds.specs.Nodes.{Node, Redirects}
-use Rattle.art_kinds.specs.Edges.{child_at}
-use Rattle.art_tree.specs.Invariant.Shape.{Shape, Keeps, Covers, CoversLeaf, NodeFits, RootFits, Parts}
+use Rattle.art_tree.specs.Invariant.Shape.{Shape, Keeps, Covers, CoversLeaf, NodeFits}
 use Rattle.art_kinds.specs.declared.records.ids.Child.{Child}
 use Rattle.art_kinds.specs.declared.records.ids.Child.TheVariants.{Leaf, Inner}
 use Rattle.art_tree.proofs.BeginsLemmas.{Begins-length, Begins-trans, Begins-linear, Begins-equal, Begins-edge_front, Begins-cases, Bytes-cases, next_byte-front, common-left, common-right}
 use Rattle.art_tree.specs.Calls.Pruning.{Prunes, FreesSubtree}
+use Rattle.art_tree.proofs.Invariant.Growing.{Parts-instead, top_from}
 use Rattle.art_tree.proofs.Invariant.Subtrees.{above_leaf, above_node}
 use Rattle.art_tree.proofs.Invariant.Prefixes.{turned_prefix}
 use Rattle.art_tree.proofs.Invariant.SameShapes.{rooted}
 use Rattle.art_tree.proofs.Invariant.SmallShapes.{shape_one}
-use Rattle.art_tree.proofs.Invariant.EdgesAbove.{Turns, turned_node}
+use Rattle.art_tree.proofs.Invariant.EdgesAbove.{Turns, turned_node, turned_free, leads_live, came_from, turned_fits}
 use Rattle.blart_keys.proofs.Options.{is_some, some_of}
 
 -- the nodes whose fronts begin with g are removed, and the edge at g now leads to the leaf i
 pub record PrunesNodes (old new : ℕ → Option Node) (front_of : ℕ → Bytes) (g : Bytes) (c : Child) (i : ℕ) : Type 0 where
   pub gone : (m : ℕ) → Begins g (front_of m) → new m ≡ None
-  pub others : (m : ℕ) (x : Node) → (Begins g (front_of m) → ⊥) → old m ≡ Some x → (x' : Node) × (new m ≡ Some x') × Turns x x' (front_of m) g c (Leaf i) × (x'.prefix ≡ x.prefix)
+  pub others : (m : ℕ) (x : Node) → (Begins g (front_of m) → ⊥) → old m ≡ Some x → (x' : Node) × (new m ≡ Some x') × (Turns x x' (front_of m) g c (Leaf i) × (x'.prefix ≡ x.prefix))
   pub no_more : (m : ℕ) → old m ≡ None → new m ≡ None
 
 module _ {P : ℕ} (keys keys' : ℕ → Option Bytes) (nodes nodes' : ℕ → Option Node) (root : Option Child) (p b i : ℕ) (k : Bytes) (c : Child) (s : Shape P keys nodes root) (live_p : IsSome (nodes p))
@@ -77,54 +77,22 @@ module _ {P : ℕ} (keys keys' : ℕ → Option Bytes) (nodes nodes' : ℕ → O
     ]
   ]
 
-  parts_left : (m : ℕ) → (Begins g (s.front_of m) → ⊥) → Parts keys (s.front_of m) → Parts keys' (s.front_of m)
-  parts_left m off q =
-      let u = instead m off q.i q.k q.k_is q.k_front in
-      let v = instead m off q.j q.l q.l_is q.l_front in
-      record { i = u.0; j = v.0; k = u.1; l = v.1; k_is = u.2; l_is = v.2; k_front = u.3; l_front = v.3; differ = λ e. q.differ (sym u.4 ∙ e ∙ v.4) }
-
-  was_live : (m : ℕ) (x : Node) → nodes' m ≡ Some x → (o : Option Node) → nodes m ≡ o → (w : Node) × (nodes m ≡ Some w)
-  was_live m x is None e = let h : nodes' m ≡ None = cuts.no_more m e in absurd cc
-  was_live m x is (Some w) e = (w, e)
-
   not_gone : (m : ℕ) (x : Node) → nodes' m ≡ Some x → Begins g (s.front_of m) → ⊥
   not_gone m x is h = let f : nodes' m ≡ None = cuts.gone m h in let z : None ≡ Some x = sym f ∙ is in cc
 
-  fits_left : (m : ℕ) (x x' : Node) → nodes m ≡ Some x → (Begins g (s.front_of m) → ⊥) → Turns x x' (s.front_of m) g c (Leaf i) → NodeFits keys' nodes' s.front_of (s.front_of m) x'
-  fits_left m x x' is off r =
-      let t : Bytes = s.front_of m in
-      let f : NodeFits keys nodes s.front_of t x = s.node m x is in
-      record {
-        depth = r.depth ∙ f.depth;
-        below = λ d e there.
-            elim (Bytes-cases (t ++ d ∷ []) g) [
-              | inl at ↦
-                  let a : child_at x'.edges d ≡ Some (Leaf i) = r.now d at in
-                  let h : e ≡ Leaf i = cc in
-                  rw (at, h) leaf_now
-              | inr far ↦
-                  let a : child_at x.edges d ≡ Some e = sym (r.rest d far) ∙ there in
-                  cover_kept (t ++ d ∷ []) e (other_edge m d off far) (f.below d e a)
-            ];
-        longer = λ j l e h. f.longer j l (prunes.stood j l e) h;
-        edge = λ j l e h.
-            let y : IsSome (child_at x.edges (next_byte t l)) = f.edge j l (prunes.stood j l e) h in
-            elim (Bytes-cases (t ++ next_byte t l ∷ []) g) [
-              | inl at ↦ is_some (child_at x'.edges (next_byte t l)) (Leaf i) (r.now (next_byte t l) at)
-              | inr far ↦ let Q : Option Child → Type 0 = λ o. IsSome o in subst Q (sym (r.rest (next_byte t l) far)) y
-            ];
-        parts = parts_left m off f.parts;
-        ascends = r.ascends f.ascends;
-      }
+  -- what a node was
+  back : (m : ℕ) (x' : Node) → nodes' m ≡ Some x' → (x : Node) × (nodes m ≡ Some x) × (Turns x x' (s.front_of m) g c (Leaf i) × (x'.prefix ≡ x.prefix))
+  back m x' is = came_from (λ x x'. Turns x x' (s.front_of m) g c (Leaf i) × (x'.prefix ≡ x.prefix)) (nodes m) (nodes' m) (λ x e. cuts.others m x (not_gone m x' is) e) (cuts.no_more m) x' is
 
-  node_fits : (m : ℕ) (x : Node) → nodes' m ≡ Some x → NodeFits keys' nodes' s.front_of (s.front_of m) x
-  node_fits m x is =
-      let off = not_gone m x is in
-      let w = was_live m x is (nodes m) refl in
-      let y = cuts.others m w.0 off w.1 in
-      let a : nodes' m ≡ Some y.0 = y.1 in
-      let h : y.0 ≡ x = cc in
-      subst (λ (x : Node). NodeFits keys' nodes' s.front_of (s.front_of m) x) h (fits_left m w.0 y.0 w.1 off y.2)
+  node_fits : (m : ℕ) (x' : Node) → nodes' m ≡ Some x' → NodeFits keys' nodes' s.front_of (s.front_of m) x'
+  node_fits m x' is =
+      let off = not_gone m x' is in
+      let w = back m x' is in
+      let f : NodeFits keys nodes s.front_of (s.front_of m) w.0 = s.node m w.0 w.1 in
+      turned_fits keys keys' nodes nodes' s.front_of s.front_of w.0 x' (s.front_of m) g c (Leaf i) w.2.0 f leaf_now
+      (λ d e far a. cover_kept (s.front_of m ++ d ∷ []) e (other_edge m d off far) (f.below d e a))
+      (λ j l e h. (f.longer j l (prunes.stood j l e) h, f.edge j l (prunes.stood j l e) h))
+      (Parts-instead keys keys' (s.front_of m) (instead m off) f.parts)
 
   joined_left : (a d : ℕ) (x y : Bytes) → keys' a ≡ Some x → keys' d ≡ Some y → a ≢ d → (m : ℕ) × IsSome (nodes' m) × (s.front_of m ≡ common x y)
   joined_left a d x y ax dy apart =
@@ -136,46 +104,30 @@ module _ {P : ℕ} (keys keys' : ℕ → Option Bytes) (nodes nodes' : ℕ → O
       apart (e1 ∙ sym e2)) in
       (r.0, live_kept r.0 r.1 off, r.2)
 
-  top_kept : (r : Option Child) → RootFits keys nodes s.front_of r → RootFits keys' nodes' s.front_of r
-  top_kept None h = λ j. absurd (let z : None ≡ Some k = sym (h i) ∙ prunes.was in cc)
-  top_kept (Some e) h = cover_kept [] e (λ l f gl. tt) h
-
   led : (a : Option (ℕ × ℕ)) (n : ℕ) → LeadsTo nodes' root a (Inner n) → LeadsTo nodes root a (Inner n)
   led None n l = l
   led (Some (q, d)) n l =
-      let off = not_gone q l.0 l.1 in
-      let w = was_live q l.0 l.1 (nodes q) refl in
-      let y = cuts.others q w.0 off w.1 in
-      let f : nodes' q ≡ Some y.0 = y.1 in
-      let h : nodes' q ≡ Some l.0 = l.1 in
-      let z : l.0 ≡ y.0 = cc in
-      let there : child_at y.0.edges d ≡ Some (Inner n) = ap (λ (x : Node). child_at x.edges d) (sym z) ∙ l.2 in
+      let w = back q l.0 l.1 in
       elim (Bytes-cases (s.front_of q ++ d ∷ []) g) [
-        | inl at ↦ absurd (let e : Some (Leaf i) ≡ Some (Inner n) = sym (y.2.now d at) ∙ there in cc)
-        | inr far ↦ (w.0, w.1, sym (y.2.rest d far) ∙ there)
+        | inl at ↦ absurd (let e : Some (Leaf i) ≡ Some (Inner n) = sym (w.2.0.now d at) ∙ l.2 in cc)
+        | inr far ↦ (w.0, w.1, sym (w.2.0.rest d far) ∙ l.2)
       ]
 
   kept_prefixes : Keeps P nodes' root s.front_of
-  kept_prefixes a n x' l is =
-      let off = not_gone n x' is in
-      let w = was_live n x' is (nodes n) refl in
-      let y = cuts.others n w.0 off w.1 in
-      let f : nodes' n ≡ Some y.0 = y.1 in
-      let z : x' ≡ y.0 = cc in
-      ap (λ (x : Node). x.prefix) z ∙ y.3 ∙ s.keeps a n w.0 (led a n l) w.1
+  kept_prefixes a n x' l is = let w = back n x' is in w.2.1 ∙ s.keeps a n w.0 (led a n l) w.1
 
   -- the tree: of the keys below the edge, one leaf is left
   pub shape_pruned : Shape P keys' nodes' root
   shape_pruned = record {
     front_of = s.front_of;
-    top = top_kept root s.top;
+    top = top_from keys keys' nodes nodes' root s s.front_of i k prunes.was (λ e z h. cover_kept [] e (λ l f gl. tt) h);
     node = node_fits;
     joined = joined_left;
     apart = λ a d la ld e.
         let x = some_of (nodes' a) la in
-        let w = was_live a x.0 x.1 (nodes a) refl in
+        let w = back a x.0 x.1 in
         let y = some_of (nodes' d) ld in
-        let v = was_live d y.0 y.1 (nodes d) refl in
+        let v = back d y.0 y.1 in
         s.apart a d (is_some (nodes a) w.0 w.1) (is_some (nodes d) v.0 v.1) e;
     keeps = kept_prefixes;
   }
@@ -193,23 +145,15 @@ module _ {P : ℕ} (keys : ℕ → Option Bytes) (nodes mid : ℕ → Option Nod
   leads_still = (leads.0, up.kept p off_below ∙ leads.1, leads.2)
 
   module _ (new : ℕ → Option Node) (i : ℕ) (red : Redirects mid new p b (Leaf i)) where
-    edge_live : (e : ℕ × ℕ) → Some (p, b) ≡ Some e → IsSome (nodes e.0)
-    edge_live e is = let z : (p, b) ≡ e = cc in subst (λ (w : ℕ × ℕ). IsSome (nodes w.0)) z (is_some (nodes p) leads.0 leads.1)
-
     -- once redirected, the edge leads to the leaf
     pub cuts_freed : PrunesNodes nodes new s.front_of (s.front_of p ++ b ∷ []) c i
     cuts_freed = record {
       gone = λ m h. red.others m (λ e. off_below (subst (λ (n : ℕ). Begins (s.front_of p ++ b ∷ []) (s.front_of n)) e h)) ∙ up.gone m h;
       others = λ m x off is.
           let there : mid m ≡ Some x = up.kept m off ∙ is in
-          let y = turned_node s.front_of mid new root root c (Leaf i) (λ n. IsSome (nodes n)) s.apart (Some (p, b)) leads_still edge_live (red, refl) m x (is_some (nodes m) x is) there in
-          (y.0, y.1, y.2, turned_prefix mid new root root (Some (p, b)) (Leaf i) (red, refl) m x y.0 there y.1);
-      no_more = λ m none.
-          let far : m ≢ p = (λ z. let f : nodes p ≡ None = ap nodes (sym z) ∙ none in let h : nodes p ≡ Some leads.0 = leads.1 in cc) in
-          elim (Begins-cases (s.front_of p ++ b ∷ []) (s.front_of m)) [
-            | inl h ↦ red.others m far ∙ up.gone m h
-            | inr off ↦ red.others m far ∙ up.kept m off ∙ none
-          ];
+          let y = turned_node s.front_of mid new root root c (Leaf i) (λ n. IsSome (nodes n)) s.apart (Some (p, b)) leads_still (leads_live nodes root (Some (p, b)) c leads) (red, refl) m x (is_some (nodes m) x is) there in
+          (y.0, y.1, (y.2, turned_prefix mid new root root (Some (p, b)) (Leaf i) (red, refl) m x y.0 there y.1));
+      no_more = λ m none. turned_free mid new root root (Some (p, b)) (Leaf i) (red, refl) m (elim (Begins-cases (s.front_of p ++ b ∷ []) (s.front_of m)) [ inl h ↦ up.gone m h | inr off ↦ up.kept m off ∙ none ]);
     }
 
     -- and the tree has the keys that are left

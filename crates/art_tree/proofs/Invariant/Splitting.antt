@@ -13,12 +13,12 @@ use Rattle.art_tree.specs.Invariant.Shape.{Shape, Keeps, kept_prefix, Covers, Co
 use Rattle.art_kinds.specs.declared.records.ids.Edge.{Edge}
 use Rattle.art_kinds.specs.declared.records.ids.Child.{Child}
 use Rattle.art_kinds.specs.declared.records.ids.Child.TheVariants.{Leaf, Inner}
-use Rattle.art_tree.proofs.BeginsLemmas.{Begins-length, Begins-more, Begins-trans, Begins-itself, Begins-next, edge_some, Begins-linear, Begins-past, Begins-equal, Begins-edge_front, Begins-cases, common_same, common_at, Bytes-cases}
+use Rattle.art_tree.proofs.BeginsLemmas.{Begins-length, Begins-more, Begins-trans, Begins-itself, Begins-next, edge_some, Begins-linear, Begins-past, Begins-equal, Begins-edge_front, Bytes-cases}
 use Rattle.blart_keys.proofs.Options.{is_some, some_of, not_some}
-use Rattle.art_tree.proofs.Invariant.EdgesAbove.{Turns, turned_node, turned_off, turned_free, turns_after, leads_made, leads_live, Hangs, above_cases}
+use Rattle.art_tree.proofs.Invariant.EdgesAbove.{Turns, turned_node, turned_off, turned_free, turns_after, leads_made, leads_live, Hangs, above_cases, came_from, turned_fits}
 use Rattle.art_tree.proofs.Invariant.OneEdge.{one_above}
 use Rattle.art_tree.proofs.Invariant.Prefixes.{keeps_as, cut_node, cut_was, cut_free, cut_leads, turned_prefix, Recut, recut_by}
-use Rattle.art_tree.proofs.Invariant.Growing.{covers_above, Departs, Gains, kept, kept_cases, within, Parts-kept, joined_more, edge_toward}
+use Rattle.art_tree.proofs.Invariant.Growing.{covers_above, Departs, Gains, kept, kept_cases, within, Parts-kept, new_leaf, key_on, joined_on, top_from}
 use Rattle.art_tree.proofs.Invariant.Subtrees.{above_leaf, above_node}
 
 -- the child is a leaf, or a node with a front longer than t
@@ -250,14 +250,6 @@ module _ {P : ℕ} (keys keys' : ℕ → Option Bytes) (nodes cut mid : ℕ → 
           ]);
     }
 
-    new_leaf : CoversLeaf keys' (t ++ next_byte t k ∷ []) i
-    new_leaf = record {
-      key = k;
-      is = gains.has;
-      front = Begins-more t k d.front d.longer;
-      only = λ j l e b. elim (kept_cases keys keys' i k gains j l e) [ inl o ↦ absurd (d.alone j l o b) | inr o ↦ o.0 ];
-    }
-
     -- the old child, below the new node
     old_child : (c : Child) → c ≡ c0 → Covers keys nodes s.front_of g0 c → Past s.front_of t c → Covers keys' new fronts_after (t ++ next_byte t d.nearest_key ∷ []) c
     old_child (Leaf j0) e cov far = record {
@@ -304,7 +296,7 @@ module _ {P : ℕ} (keys keys' : ℕ → Option Bytes) (nodes cut mid : ℕ → 
       depth = deep;
       below = λ b c e.
           elim (edges.2 b c e) [
-            | inl o ↦ rw (o.0, o.1) new_leaf
+            | inl o ↦ rw (o.0, o.1) (new_leaf keys keys' i k gains t d)
             | inr o ↦ rw (o.0, o.1) (old_child c0 refl covers0 past)
           ];
       longer = λ j l e b.
@@ -336,48 +328,15 @@ module _ {P : ℕ} (keys keys' : ℕ → Option Bytes) (nodes cut mid : ℕ → 
 
     old_fits : (m : ℕ) (x x' : Node) → nodes m ≡ Some x → Turns x x' (s.front_of m) g0 c0 (Inner n) → NodeFits keys' new fronts_after (s.front_of m) x'
     old_fits m x x' is r =
-        let f : NodeFits keys nodes s.front_of (s.front_of m) x = s.node m x is in
         let g : Bytes = s.front_of m in
-        let live : IsSome (nodes m) = is_some (nodes m) x is in
-        record {
-          depth = r.depth ∙ f.depth;
-          below = λ b c e.
-              elim (Bytes-cases (g ++ b ∷ []) g0) [
-                | inl at ↦
-                    let a : child_at x'.edges b ≡ Some (Inner n) = r.now b at in
-                    let h : c ≡ Inner n = cc in
-                    rw (at, h) new_node
-                | inr off ↦
-                    let a : child_at x.edges b ≡ Some c = sym (r.rest b off) ∙ e in
-                    edge_kept (g ++ b ∷ []) c (not_past_edge m live b c (f.below b c a) off) (f.below b c a)
-              ];
-          longer = λ j l e b.
-              elim (kept_cases keys keys' i k gains j l e) [
-                | inl o ↦ f.longer j l o b
-                | inr o ↦
-                    let gk : Begins g k = rw (← o.1) b in
-                    let h : length g < length t = shorter m x is gk in
-                    let h2 : length t < length k = d.longer in
-                    rw o.1 (omega arith)
-              ];
-          edge = λ j l e b.
-              let y : IsSome (child_at x.edges (next_byte g l)) = (elim (kept_cases keys keys' i k gains j l e) [
-                | inl o ↦ f.edge j l o b
-                | inr o ↦
-                    let gk : Begins g k = rw (← o.1) b in
-                    rw o.1 (edge_toward keys t k d g x.edges gk (shorter m x is gk) f.edge)
-              ]) in
-              elim (Bytes-cases (g ++ next_byte g l ∷ []) g0) [
-                | inl at ↦ is_some (child_at x'.edges (next_byte g l)) (Inner n) (r.now (next_byte g l) at)
-                | inr off ↦ let P : Option Child → Type 0 = λ o. IsSome o in subst P (sym (r.rest (next_byte g l) off)) y
-              ];
-          parts = Parts-kept keys keys' i k gains g f.parts;
-          ascends = r.ascends f.ascends;
-        }
+        let f : NodeFits keys nodes s.front_of g x = s.node m x is in
+        turned_fits keys keys' nodes new s.front_of fronts_after x x' g g0 c0 (Inner n) r f new_node
+        (λ b c off a. edge_kept (g ++ b ∷ []) c (not_past_edge m (is_some (nodes m) x is) b c (f.below b c a) off) (f.below b c a))
+        (key_on keys keys' i k gains t d g x.edges (shorter m x is) f.longer f.edge)
+        (Parts-kept keys keys' i k gains g f.parts)
 
-    was_live : (m : ℕ) (x : Node) → m ≢ n → new m ≡ Some x → (o : Option Node) → nodes m ≡ o → (w : Node) × (nodes m ≡ Some w)
-    was_live m x off is None e = let h : new m ≡ None = no_more m off e in absurd cc
-    was_live m x off is (Some w) e = (w, e)
+    back : (m : ℕ) → m ≢ n → (x' : Node) → new m ≡ Some x' → (x : Node) × (nodes m ≡ Some x) × Turns x x' (s.front_of m) g0 c0 (Inner n)
+    back m off x' is = came_from (λ x x'. Turns x x' (s.front_of m) g0 c0 (Inner n)) (nodes m) (new m) (turned m) (no_more m off) x' is
 
     node_fits : (m : ℕ) (x : Node) → new m ≡ Some x → NodeFits keys' new fronts_after (fronts_after m) x
     node_fits m x is =
@@ -389,54 +348,26 @@ module _ {P : ℕ} (keys keys' : ℕ → Option Bytes) (nodes cut mid : ℕ → 
               let z : fronts_after m ≡ t = ap fronts_after e.1 ∙ after-new in
               subst (λ (f : Bytes). NodeFits keys' new fronts_after f x) (sym z) (subst (λ (x : Node). NodeFits keys' new fronts_after t x) h new_fits)
           | inr e ↦
-              let w = was_live m x e.1 is (nodes m) refl in
-              let y = turned m w.0 w.1 in
-              let a : new m ≡ Some y.0 = y.1 in
-              let h : y.0 ≡ x = cc in
-              let z : fronts_after m ≡ s.front_of m = after-old m e.1 in
-              subst (λ (f : Bytes). NodeFits keys' new fronts_after f x) (sym z) (subst (λ (x : Node). NodeFits keys' new fronts_after (s.front_of m) x) h (old_fits m w.0 y.0 w.1 y.2))
+              let w = back m e.1 x is in
+              subst (λ (f : Bytes). NodeFits keys' new fronts_after f x) (sym (after-old m e.1)) (old_fits m w.0 x w.1 w.2)
         ]
 
     old_joined : (a b : ℕ) (x y : Bytes) → keys a ≡ Some x → keys b ≡ Some y → a ≢ b → (m : ℕ) × IsSome (new m) × (fronts_after m ≡ common x y)
     old_joined a b x y ax by apart = let r = s.joined a b x y ax by apart in (r.0, live_kept r.0 r.1, after-old r.0 (not_new r.0 r.1) ∙ r.2)
-
-    joined_new : (j : ℕ) (l : Bytes) → keys j ≡ Some l → (m : ℕ) × IsSome (new m) × (fronts_after m ≡ common k l)
-    joined_new j l is =
-        elim (Begins-cases t l) [
-          | inl b ↦ (n, live_new, after-new ∙ sym (common_at t k l d.front d.longer b (d.alone j l is)))
-          | inr b ↦
-              let apart : d.nearest ≢ j = λ e. (let f : keys j ≡ Some d.nearest_key = rw (← e) d.nearest_is in let g : d.nearest_key ≡ l = cc in b (subst (λ (l : Bytes). Begins t l) g d.nearest_front)) in
-              let r = old_joined d.nearest j d.nearest_key l d.nearest_is is apart in
-              (r.0, r.1, r.2 ∙ sym (common_same t k d.nearest_key l d.front d.nearest_front b))
-        ]
-
-    top_kept : (r : Option Child) → root ≡ r → 0 < length g0 → RootFits keys' new fronts_after r
-    top_kept None e pos = λ j.
-        let h : RootFits keys nodes s.front_of None = subst (λ (r : Option Child). RootFits keys nodes s.front_of r) e s.top in
-        let a : keys d.nearest ≡ None = h d.nearest in
-        let b : keys d.nearest ≡ Some d.nearest_key = d.nearest_is in
-        absurd cc
-    top_kept (Some c) e pos =
-        let h : Covers keys nodes s.front_of [] c = subst (λ (r : Option Child). RootFits keys nodes s.front_of r) e s.top in
-        edge_kept [] c (λ b far.
-        elim hangs [
-          | inl a ↦ (let z : length g0 ≡ 0 = ap (λ (z : Option (ℕ × ℕ)). length (edge_front s.front_of z)) a.0 in omega arith)
-          | inr a ↦ (let e : g0 ≡ s.front_of a.0.0 ++ a.0.1 ∷ [] = ap (edge_front s.front_of) a.1 in not_past_above a.0.0 a.2 (Begins-edge_front (s.front_of a.0.0) t a.0.1 (rw (← e) g0_t)) [] c h tt far)
-        ]) h
 
     top_fits : RootFits keys' new fronts_after root'
     top_fits =
         elim hangs [
           | inl a ↦ rw a.2 (subst (λ (g : Bytes). CoversNode keys' new fronts_after g n) (ap (edge_front s.front_of) a.0) new_node)
           | inr a ↦
-              let le : length g0 ≡ length (s.front_of a.0.0) + 1 = ap (λ (z : Option (ℕ × ℕ)). length (edge_front s.front_of z)) a.1 ∙ length-append (s.front_of a.0.0) (a.0.1 ∷ []) in
-              rw a.3 (top_kept root refl (omega arith))
+              let e : g0 ≡ s.front_of a.0.0 ++ a.0.1 ∷ [] = ap (edge_front s.front_of) a.1 in
+              rw a.3 (top_from keys keys' nodes new root s fronts_after d.nearest d.nearest_key d.nearest_is (λ c z h. edge_kept [] c (λ b far. not_past_above a.0.0 a.2 (Begins-edge_front (s.front_of a.0.0) t a.0.1 (rw (← e) g0_t)) [] c h tt far) h))
         ]
 
     apart_new : (m : ℕ) → m ≢ n → IsSome (new m) → fronts_after m ≡ t → ⊥
     apart_new m off live e =
         let x = some_of (new m) live in
-        let w = was_live m x.0 off x.1 (nodes m) refl in
+        let w = back m off x.0 x.1 in
         not_front m (is_some (nodes m) w.0 w.1) (sym (after-old m off) ∙ e)
 
     -- an old edge to a node other than the child: the node keeps its prefix
@@ -482,16 +413,12 @@ module _ {P : ℕ} (keys keys' : ℕ → Option Bytes) (nodes cut mid : ℕ → 
                     ∙ ap (λ (w : Bytes). take P (drop (length w) (fronts_after j))) (λ h. (sym front) h ++ (sym o.0) h ∷ [])
               ]
           | inr e ↦
-              let w = was_live q l.0 e.1 l.1 (nodes q) refl in
-              let y = turned q w.0 w.1 in
-              let f : new q ≡ Some y.0 = y.1 in
-              let g : new q ≡ Some l.0 = l.1 in
-              let z : l.0 ≡ y.0 = cc in
-              let there : child_at y.0.edges b ≡ Some (Inner j) = ap (λ (x : Node). child_at x.edges b) (sym z) ∙ l.2 in
+              let w = back q e.1 l.0 l.1 in
+              let there : child_at l.0.edges b ≡ Some (Inner j) = l.2 in
               let front : fronts_after q ++ b ∷ [] ≡ s.front_of q ++ b ∷ [] = ap (λ (u : Bytes). u ++ b ∷ []) (after-old q e.1) in
               elim (Bytes-cases (s.front_of q ++ b ∷ []) g0) [
-                | inl at ↦ (let u : child_at y.0.edges b ≡ Some (Inner n) = y.2.now b at in kept_at (fronts_after q ++ b ∷ []) j x' (let v : Inner n ≡ Inner j = cc in v) (front ∙ at) is)
-                | inr off ↦ kept_old (Some (q, b)) j x' (w.0, w.1, sym (y.2.rest b off) ∙ there) off front is
+                | inl at ↦ (let u : child_at l.0.edges b ≡ Some (Inner n) = w.2.now b at in kept_at (fronts_after q ++ b ∷ []) j x' (let v : Inner n ≡ Inner j = cc in v) (front ∙ at) is)
+                | inr off ↦ kept_old (Some (q, b)) j x' (w.0, w.1, sym (w.2.rest b off) ∙ there) off front is
               ]
         ]
 
@@ -501,7 +428,7 @@ module _ {P : ℕ} (keys keys' : ℕ → Option Bytes) (nodes cut mid : ℕ → 
       front_of = fronts_after;
       top = top_fits;
       node = node_fits;
-      joined = joined_more keys keys' i k gains new fronts_after old_joined joined_new;
+      joined = joined_on keys keys' i k gains t d new fronts_after n live_new after-new old_joined;
       apart = λ a b la lb e.
           elim (eqb_tells a n) [
             | inl p ↦
@@ -514,9 +441,9 @@ module _ {P : ℕ} (keys keys' : ℕ → Option Bytes) (nodes cut mid : ℕ → 
                   | inl q ↦ absurd (apart_new a p.1 la (e ∙ ap fronts_after q.1 ∙ after-new))
                   | inr q ↦
                       let x = some_of (new a) la in
-                      let w = was_live a x.0 p.1 x.1 (nodes a) refl in
+                      let w = back a p.1 x.0 x.1 in
                       let y = some_of (new b) lb in
-                      let v = was_live b y.0 q.1 y.1 (nodes b) refl in
+                      let v = back b q.1 y.0 y.1 in
                       s.apart a b (is_some (nodes a) w.0 w.1) (is_some (nodes b) v.0 v.1) (sym (after-old a p.1) ∙ e ∙ after-old b q.1)
                 ]
           ];
