@@ -3,6 +3,8 @@ use Rattle.std.specs.Prelude.{◌≡◌, ◌≢◌, ◌<◌, ◌≤◌, ℕ, Boo
 use Rattle.art_kinds.specs.declared.records.ids.Child.{Child}
 use Rattle.art_kinds.specs.declared.records.ids.Edge.{Edge}
 use Rattle.art_kinds.specs.declared.records.ids.Child.TheVariants.{Leaf}
+use Rattle.art_kinds.specs.declared.records.ids.End.{End}
+use Rattle.art_kinds.specs.declared.records.ids.End.TheVariants.{First, Last}
 
 -- the child of the first edge at a byte, if there is one
 abbrev pub child_at : List Edge → ℕ → Option Child
@@ -96,6 +98,11 @@ IsPrevious es b (Some e) = (e.byte < b) × (child_at es e.byte ≡ Some e.to) ×
 abbrev pub Precedes : Bool → ℕ → ℕ → Type 0
 Precedes true b c = b < c
 Precedes false b c = c < b
+
+-- whether this is the first end
+abbrev pub is_first : End → Bool
+is_first First = true
+is_first Last = false
 
 -- the edge with the least byte, or the edge with the greatest byte
 pub record IsEnd (is_first : Bool) (es : List Edge) (e : Edge) : Type 0 where

@@ -8,5 +8,5 @@
 
 mod records;
 
-pub use records::ids::{Child, Edge, Kind, NodeId};
+pub use records::ids::{Child, Edge, End, Kind, NodeId};
 pub use records::nodes::{NodeRef, Nodes};

@@ -1,9 +1,9 @@
 //! A node with few children: their bytes in ascending order, and the children beside them.
 ghost use Rattle.std.specs.Prelude.{◌≡◌, ◌+◌, ◌-◌, ◌<◌, ◌≤◌, [], ◌∷◌, length, take, Some, None, IsSome};
-ghost use Rattle.art_kinds.specs.Edges.{child_at, Ascends, IsNext, IsPrevious, IsEnd, count_below, edges_with, edges_without, after, before, paired};
+ghost use Rattle.art_kinds.specs.Edges.{child_at, Ascends, IsNext, IsPrevious, is_first, IsEnd, count_below, edges_with, edges_without, after, before, paired};
 
 use crate::records::children::Children;
-use crate::records::ids::{Child, Edge};
+use crate::records::ids::{Child, Edge, End};
 use crate::records::indexed::Indexed;
 use crate::records::link::Link;
 use std::marker::Model;
@@ -48,13 +48,15 @@ impl<const N: usize> Few<N> {
         )
     }
 
-    /// Returns the edge with the least byte if `is_first` is set, or else the one with the
-    /// greatest.
-    pub(crate) fn end_edge(&self, is_first: bool) -> Edge
+    /// Returns the edge at an end: the one with the least byte, or the one with the greatest.
+    pub(crate) fn end_edge(&self, end: End) -> Edge
         requires { 0 < length self.now }
-        ensures { IsEnd is_first self.now result }
+        ensures { IsEnd (is_first end) self.now result }
     {
-        let place = if is_first { 0 } else { self.count as usize - 1 };
+        let place = match end {
+            End::First => 0,
+            End::Last => self.count as usize - 1,
+        };
         Edge {
             byte: self.bytes[place],
             to: self.children[place].child(),

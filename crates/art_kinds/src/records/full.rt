@@ -1,9 +1,9 @@
 //! A node with room for a child at each byte.
 ghost use Rattle.std.specs.Prelude.{ℕ, ◌≡◌, ◌+◌, ◌<◌, ◌≤◌, length, None};
-ghost use Rattle.art_kinds.specs.Edges.{child_at, IsFrom, IsNext, IsPrevious, IsEnd};
+ghost use Rattle.art_kinds.specs.Edges.{child_at, IsFrom, IsNext, IsPrevious, is_first, IsEnd};
 
 use crate::records::children::Children;
-use crate::records::ids::{Child, Edge};
+use crate::records::ids::{Child, Edge, End};
 use crate::records::indexed::Indexed;
 use crate::records::link::OptionLink;
 use std::marker::Model;
@@ -94,16 +94,14 @@ impl Full {
         None
     }
 
-    /// Returns the edge with the least byte if `is_first` is set, or else the one with the
-    /// greatest.
-    pub(crate) fn end_edge(&self, is_first: bool) -> Edge
+    /// Returns the edge at an end: the one with the least byte, or the one with the greatest.
+    pub(crate) fn end_edge(&self, end: End) -> Edge
         requires { 0 < length self.now }
-        ensures { IsEnd is_first self.now result }
+        ensures { IsEnd (is_first end) self.now result }
     {
-        let found = if is_first {
-            self.edge_from(0)
-        } else {
-            self.edge_below(256)
+        let found = match end {
+            End::First => self.edge_from(0),
+            End::Last => self.edge_below(256),
         };
         match found {
             Some(edge) => edge,

@@ -105,3 +105,10 @@ pub struct Edge {
     pub byte: u8,
     pub to: Child,
 }
+
+/// An end of edges or leaves in ascending order.
+#[derive(Clone, Copy)]
+pub enum End {
+    First,
+    Last,
+}

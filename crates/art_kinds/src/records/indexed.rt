@@ -1,11 +1,11 @@
 //! A node with an index of its children by byte.
 ghost use Rattle.std.specs.Prelude.{ℕ, ◌≡◌, ◌+◌, ◌<◌, ◌≤◌, length, Some, None, slice_index_or};
-ghost use Rattle.art_kinds.specs.Edges.{child_at, IsFrom, IsNext, IsPrevious, IsEnd, moved};
+ghost use Rattle.art_kinds.specs.Edges.{child_at, IsFrom, IsNext, IsPrevious, is_first, IsEnd, moved};
 
 use crate::records::children::Children;
 use crate::records::few::Few;
 use crate::records::full::Full;
-use crate::records::ids::{Child, Edge};
+use crate::records::ids::{Child, Edge, End};
 use crate::records::link::Link;
 use std::marker::Model;
 
@@ -122,16 +122,14 @@ impl Indexed {
         None
     }
 
-    /// Returns the edge with the least byte if `is_first` is set, or else the one with the
-    /// greatest.
-    pub(crate) fn end_edge(&self, is_first: bool) -> Edge
+    /// Returns the edge at an end: the one with the least byte, or the one with the greatest.
+    pub(crate) fn end_edge(&self, end: End) -> Edge
         requires { 0 < length self.now }
-        ensures { IsEnd is_first self.now result }
+        ensures { IsEnd (is_first end) self.now result }
     {
-        let found = if is_first {
-            self.edge_from(0)
-        } else {
-            self.edge_below(256)
+        let found = match end {
+            End::First => self.edge_from(0),
+            End::Last => self.edge_below(256),
         };
         match found {
             Some(edge) => edge,

@@ -1,6 +1,6 @@
 //! The inner nodes under their numbers.
 ghost use Rattle.std.specs.Prelude.{true, ◌≡◌, ℕ, ◌+◌, ◌%◌, ◌*◌, ◌/◌, ◌-◌, ◌<◌, ◌≤◌, ◌^◌, ◌++◌, ◌∷◌, length, take, drop, slice_get, None, Some, IsSome, is_some, IsSomeAnd, OnOk, IfOk, OnErr};
-ghost use Rattle.art_kinds.specs.Edges.{child_at, Ascends, IsNext, IsPrevious, IsEnd};
+ghost use Rattle.art_kinds.specs.Edges.{child_at, Ascends, IsNext, IsPrevious, is_first, IsEnd};
 ghost use Rattle.art_slots.specs.Store.{slot_at};
 ghost use Rattle.art_kinds.specs.Narrow.{IsNarrow};
 ghost use Rattle.art_kinds.specs.Refs.{edges_of};
@@ -9,7 +9,7 @@ ghost use Rattle.art_kinds.specs.Nodes.{at, live, room, FitsNew, FitsMore, HasPl
 use crate::records::children::Children;
 use crate::records::few::Few;
 use crate::records::full::Full;
-use crate::records::ids::{Child, Edge, Kind, NodeId};
+use crate::records::ids::{Child, Edge, End, Kind, NodeId};
 use crate::records::indexed::Indexed;
 use crate::records::inner::{self, Inner, copy_front};
 use art_slots::{Store, Visits};
@@ -125,17 +125,16 @@ impl<'a, const P: usize> NodeRef<'a, P> {
         }
     }
 
-    /// Returns the edge with the least byte if `is_first` is set, or else the one with the
-    /// greatest.
-    pub fn end_edge(&self, is_first: bool) -> Edge
+    /// Returns the edge at an end: the one with the least byte, or the one with the greatest.
+    pub fn end_edge(&self, end: End) -> Edge
         requires { 0 < length self.now.edges }
-        ensures { IsEnd is_first self.now.edges result }
+        ensures { IsEnd (is_first end) self.now.edges result }
     {
         match &self.edges {
-            EdgesRef::Four(edges) => edges.end_edge(is_first),
-            EdgesRef::Sixteen(edges) => edges.end_edge(is_first),
-            EdgesRef::FortyEight(edges) => edges.end_edge(is_first),
-            EdgesRef::Full(edges) => edges.end_edge(is_first),
+            EdgesRef::Four(edges) => edges.end_edge(end),
+            EdgesRef::Sixteen(edges) => edges.end_edge(end),
+            EdgesRef::FortyEight(edges) => edges.end_edge(end),
+            EdgesRef::Full(edges) => edges.end_edge(end),
         }
     }
 

@@ -1,6 +1,7 @@
 //! Descents in the tree.
-ghost use Rattle.std.specs.Prelude.{◌≡◌, ℕ, ◌+◌, ◌<◌, ◌≤◌, length, Option, Some};
+ghost use Rattle.std.specs.Prelude.{not, ◌≡◌, ℕ, ◌+◌, ◌<◌, ◌≤◌, length, Option, Some};
 ghost use Rattle.art_tree.specs.Begins.{Bytes};
+ghost use Rattle.art_kinds.specs.Edges.{is_first};
 ghost use Rattle.art_kinds.specs.Nodes.{at};
 ghost use Rattle.art_tree.specs.Invariant.Shape.{Shape, Covers};
 ghost use Rattle.art_tree.specs.Calls.Descents.{IsSubtree, IsRoot, IsWayOf, Finds, IsEndUnder};
@@ -8,7 +9,7 @@ ghost use Rattle.art_tree.specs.Calls.Forks.{ForkFits};
 ghost use Rattle.art_kinds.specs.declared.records.ids.Child.{Child as Way};
 
 use crate::tree::skeleton::EdgeAbove;
-use art_kinds::{Child, NodeId, Nodes};
+use art_kinds::{Child, End, NodeId, Nodes};
 use art_slots::{LeafId, Visits};
 
 /// A node or an edge at which some bytes part from the keys.
@@ -45,19 +46,18 @@ pub(crate) struct Branch {
     pub(crate) last: LeafId,
 }
 
-/// Returns the leaf with the least key below a child if `is_first` is set, or else the one with the
-/// greatest key.
+/// Returns the leaf at an end of the keys below a child: the one with the least, or the greatest.
 pub(crate) fn end_under<const P: usize>(
     nodes: &Nodes<P>,
     child: &Child,
-    is_first: bool,
+    end: End,
     visits: &mut Visits,
 ) -> LeafId
     requires { IsSubtree P (at nodes.now) child.now }
     ensures ends { (keys : ℕ → Option Bytes) (root : Option Way)
         (s : Shape P keys (at nodes.now) root)
         (g : Bytes)
-        → Covers keys (at nodes.now) s.front_of g child.now → IsEndUnder keys is_first g result }
+        → Covers keys (at nodes.now) s.front_of g child.now → IsEndUnder keys (is_first end) g result }
     ensures counted { (keys : ℕ → Option Bytes) (root : Option Way)
         (s : Shape P keys (at nodes.now) root) (g key : Bytes)
         → Covers keys (at nodes.now) s.front_of g child.now → keys result ≡ Some key
@@ -68,9 +68,16 @@ pub(crate) fn end_under<const P: usize>(
     'down: loop {
         match at {
             Child::Leaf(id) => return id,
-            Child::Inner(id) => at = nodes.read(id, visits).end_edge(is_first).to,
+            Child::Inner(id) => at = nodes.read(id, visits).end_edge(end).to,
         }
     }
+}
+
+/// Returns the end of the keys below a child that is next to a place after or before them.
+pub(crate) fn end_near(is_after: bool) -> End
+    ensures { is_first result ≡ not is_after }
+{
+    if is_after { End::Last } else { End::First }
 }
 
 /// Descends by a stored key. Returns the fork at which another key parts from it at this depth.
@@ -136,7 +143,7 @@ pub(crate) fn children_of<const P: usize>(
             let count = node.count();
             return Some((
                 count,
-                end_under(nodes, &node.end_edge(true).to, true, visits),
+                end_under(nodes, &node.end_edge(End::First).to, End::First, visits),
             ));
         }
         if depth > front.len() {

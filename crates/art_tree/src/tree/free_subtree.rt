@@ -11,7 +11,7 @@ ghost use Rattle.art_kinds.specs.Nodes.{Node, at, live};
 ghost use Rattle.art_kinds.specs.declared.records.ids.Child.{Child as Way};
 
 use crate::tree::skeleton::{EdgeAbove, Skeleton};
-use art_kinds::{Child, NodeId, Nodes};
+use art_kinds::{Child, End, NodeId, Nodes};
 use art_slots::{LeafId, Visits};
 
 impl<const P: usize> Skeleton<P> {
@@ -77,7 +77,7 @@ fn first_node<const P: usize>(nodes: &Nodes<P>, id: NodeId) -> Option<(u8, NodeI
     ensures { HasFirstNode (at nodes.now) id result }
 {
     let node = nodes.read(id, &mut Visits::new());
-    let first = node.end_edge(true);
+    let first = node.end_edge(End::First);
     let mut byte = first.byte;
     let mut to = first.to;
     'along: loop {
@@ -125,7 +125,7 @@ fn rotate<const P: usize>(nodes: &mut Nodes<P>, head: NodeId, byte: u8, below: N
     ensures deeper { IsDeeper (at nodes.old) (at nodes.new) head below }
     ensures live { live nodes.new ≡ live nodes.old }
 {
-    let last = nodes.read(below, &mut Visits::new()).end_edge(false);
+    let last = nodes.read(below, &mut Visits::new()).end_edge(End::Last);
     nodes.redirect(head, byte, last.to);
     nodes.redirect(below, last.byte, Child::Inner(head));
 }

@@ -12,9 +12,9 @@ ghost use Rattle.art_kinds.specs.Nodes.{at};
 ghost use Rattle.art_tree.specs.Points.{IsGood};
 ghost use Rattle.art_tree.specs.Invariant.Sound.{IsSound};
 
-use crate::tree::descent::{Fork, end_under};
+use crate::tree::descent::{Fork, end_near, end_under};
 use crate::tree::stop::{Stop, edge_beside, stop_of};
-use art_kinds::{Child, Edge, Nodes};
+use art_kinds::{Child, Edge, End, Nodes};
 use art_rows::{Leaves, Position};
 use art_slots::{LeafId, Visits};
 use blart_keys::AsBytes;
@@ -84,8 +84,8 @@ pub(crate) fn point_below<K: AsBytes, V, const P: usize>(
             last: id,
         },
         Stop::Longer(child) => Point::Related {
-            first: end_under(nodes, &child, true, &mut visits),
-            last: end_under(nodes, &child, false, &mut visits),
+            first: end_under(nodes, &child, End::First, &mut visits),
+            last: end_under(nodes, &child, End::Last, &mut visits),
         },
         Stop::AtNode(id, depth) => {
             let (edge, is_after) = edge_beside(nodes, &id, query[depth], &mut visits);
@@ -125,7 +125,7 @@ fn place_under<const P: usize>(
     ensures depth { result.depth ≡ depth }
     ensures fork { result.fork ≡ fork.now }
 {
-    let nearest = end_under(nodes, &edge.to, !is_after, &mut Visits::new());
+    let nearest = end_under(nodes, &edge.to, end_near(is_after), &mut Visits::new());
     if is_after {
         Place {
             nearest,

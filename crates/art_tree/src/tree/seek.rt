@@ -15,9 +15,9 @@ ghost use Rattle.art_tree.specs.Invariant.Shape.{Shape};
 ghost use Rattle.art_tree.specs.Invariant.Sound.{IsSound};
 
 use crate::tree::Tree;
-use crate::tree::descent::{Branch, end_under};
+use crate::tree::descent::{Branch, end_near, end_under};
 use crate::tree::stop::{Stop, edge_beside, stop_of};
-use art_kinds::{Child, Nodes};
+use art_kinds::{Child, End, Nodes};
 use art_rows::Leaves;
 use art_slots::{LeafId, Visits};
 use blart_keys::AsBytes;
@@ -159,7 +159,7 @@ fn place_below<K: AsBytes, V, const P: usize>(
         Stop::Same(id) => Ok(id),
         Stop::Shorter(id) => Err(Some(id)),
         Stop::Longer(child) => {
-            let first = end_under(nodes, &child, true, visits);
+            let first = end_under(nodes, &child, End::First, visits);
             Err(leaves.prev_of(first))
         }
         Stop::AtNode(id, depth) => {
@@ -193,7 +193,7 @@ fn leaf_before_place<K: AsBytes, V, const P: usize>(
     ensures grows { visits.old.count ≤ visits.new.count }
 {
     leaves.law();
-    let end = end_under(nodes, child, !is_after, visits);
+    let end = end_under(nodes, child, end_near(is_after), visits);
     if is_after {
         Some(end)
     } else {
@@ -224,8 +224,8 @@ pub(crate) fn branch_below<K: AsBytes, V, const P: usize>(
     leaves.law();
     let (stop, above) = stop_of(leaves, nodes, root, front, visits);
     let child = stop.top()?;
-    let first = end_under(nodes, &child, true, visits);
-    let last = end_under(nodes, &child, false, visits);
+    let first = end_under(nodes, &child, End::First, visits);
+    let last = end_under(nodes, &child, End::Last, visits);
     Some(Branch {
         above,
         child,

@@ -12,7 +12,7 @@ ghost use Rattle.art_kinds.specs.declared.records.ids.Child.TheVariants.{Leaf, I
 use crate::lists::{common_len, common_len_after};
 use crate::tree::descent::end_under;
 use crate::tree::skeleton::EdgeAbove;
-use art_kinds::{Child, Edge, NodeId, NodeRef, Nodes};
+use art_kinds::{Child, Edge, End, NodeId, NodeRef, Nodes};
 use art_rows::Leaves;
 use art_slots::{LeafId, Visits};
 use blart_keys::AsBytes;
@@ -232,7 +232,7 @@ fn shared_below<K: AsBytes, V, const P: usize>(
     ensures grows { visits.old.count ≤ visits.new.count }
 {
     let depth = node.depth();
-    let leaf = end_under(nodes, &node.end_edge(true).to, true, visits);
+    let leaf = end_under(nodes, &node.end_edge(End::First).to, End::First, visits);
     let (key, _) = leaves.read(leaf, visits);
     let front = &key.as_bytes()[..depth];
     let len = start + common_len_after(front, query, start);

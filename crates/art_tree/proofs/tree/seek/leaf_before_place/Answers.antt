@@ -1,5 +1,6 @@
 use Rattle.std.proofs.Common.{Bool, lit<, subst, refl, arith}
 use Rattle.art_tree.specs.Places.{IsBeside}
+use Rattle.art_tree.specs.Calls.Descents.{IsEndUnder}
 use Rattle.art_tree.specs.Calls.Stops.{beside_leaf}
 use Rattle.art_tree.specs.Leaves.{keys_in}
 use Rattle.art_tree.specs.declared.tree.point.Beside.TheVariants.{AfterLeaf, BeforeLeaf}
@@ -23,7 +24,7 @@ pub returns-then-is_after-clause-place : goal.returns-then-is_after-clause-place
 returns-then-is_after-clause-place g c q b =
     let kb = g.K.AsBytes.bytes in
     let S = c.args.leaves.now.pairs in
-    let u = c.end_under-end.ensures.ends (keys_in kb S) b.root b.shape b.front b.covers in
+    let u = subst (λ (z : Bool). IsEndUnder (keys_in kb S) z b.front c.end_under-end.result) c.end_near.ensures (c.end_under-end.ensures.ends (keys_in kb S) b.root b.shape b.front b.covers) in
     let beside = subst (λ (z : Bool). IsBeside (keys_in kb S) q (beside_leaf z c.end_under-end.result)) c.if-is_after.true (b.beside c.end_under-end.result u) in
     place_beside kb S c.requires.content c.law.ensures.distinct q b.alone (AfterLeaf c.end_under-end.result) beside _ refl
 
@@ -39,7 +40,7 @@ pub returns-else-is_after-clause-place : goal.returns-else-is_after-clause-place
 returns-else-is_after-clause-place g c q b =
     let kb = g.K.AsBytes.bytes in
     let S = c.args.leaves.now.pairs in
-    let u = c.end_under-end.ensures.ends (keys_in kb S) b.root b.shape b.front b.covers in
+    let u = subst (λ (z : Bool). IsEndUnder (keys_in kb S) z b.front c.end_under-end.result) c.end_near.ensures (c.end_under-end.ensures.ends (keys_in kb S) b.root b.shape b.front b.covers) in
     let beside = subst (λ (z : Bool). IsBeside (keys_in kb S) q (beside_leaf z c.end_under-end.result)) c.if-is_after.false (b.beside c.end_under-end.result u) in
     place_beside kb S c.requires.content c.law.ensures.distinct q b.alone (BeforeLeaf c.end_under-end.result) beside _ c.prev_of.ensures
 

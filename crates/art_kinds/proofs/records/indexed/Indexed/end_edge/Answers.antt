@@ -3,20 +3,20 @@ use Rattle.art_kinds.specs.Edges.{IsFrom, IsPrevious}
 use Rattle.art_kinds.specs.declared.records.ids.Edge.{Edge}
 use Rattle.art_kinds.proofs.Tables.{not-empty, none-below, least-of-from, greatest-of-below}
 use Rattle.art_kinds.proofs.records.indexed.Indexed.end_edge.Goals as goal
-use Rattle.art_kinds.proofs.records.indexed.Indexed.end_edge.Goals.{then-is_first, else-is_first}
+use Rattle.art_kinds.proofs.records.indexed.Indexed.end_edge.Goals.{in-First, in-Last}
 
 pub unreachable-requires : goal.unreachable-requires
 unreachable-requires c =
     let es = c.args.self.now in
-    not-empty es c.requires (elim c.if-is_first.branch [
-      | then-is_first w ↦ λ b. subst (λ (o : Option Edge). IsFrom es 0 o) (sym w.found-is ∙ c.in-None.is) w.edge_from-found.ensures b (omega arith)
-      | else-is_first w ↦ none-below es w.edge_below-found.ensures.bytes (subst (λ (o : Option Edge). IsPrevious es 256 o) (sym w.found-is ∙ c.in-None.is) w.edge_below-found.ensures.found)
+    not-empty es c.requires (elim c.match-end.branch [
+      | in-First w ↦ λ b. subst (λ (o : Option Edge). IsFrom es 0 o) (sym w.found-is ∙ c.in-None.is) w.edge_from-found.ensures b (omega arith)
+      | in-Last w ↦ none-below es w.edge_below-found.ensures.bytes (subst (λ (o : Option Edge). IsPrevious es 256 o) (sym w.found-is ∙ c.in-None.is) w.edge_below-found.ensures.found)
     ])
 
 pub returns : goal.returns
 returns c =
     let es = c.args.self.now in
-    elim c.if-is_first.branch [
-      | then-is_first w ↦ rw w.if-is_first.true (least-of-from es c.in-Some.edge (subst (λ (o : Option Edge). IsFrom es 0 o) (sym w.found-is ∙ c.in-Some.is) w.edge_from-found.ensures))
-      | else-is_first w ↦ rw w.if-is_first.false (greatest-of-below es c.in-Some.edge w.edge_below-found.ensures.bytes (subst (λ (o : Option Edge). IsPrevious es 256 o) (sym w.found-is ∙ c.in-Some.is) w.edge_below-found.ensures.found))
+    elim c.match-end.branch [
+      | in-First w ↦ rw w.in-First.is (least-of-from es c.in-Some.edge (subst (λ (o : Option Edge). IsFrom es 0 o) (sym w.found-is ∙ c.in-Some.is) w.edge_from-found.ensures))
+      | in-Last w ↦ rw w.in-Last.is (greatest-of-below es c.in-Some.edge w.edge_below-found.ensures.bytes (subst (λ (o : Option Edge). IsPrevious es 256 o) (sym w.found-is ∙ c.in-Some.is) w.edge_below-found.ensures.found))
     ]
