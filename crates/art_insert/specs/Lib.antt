@@ -1,4 +1,4 @@
 pub mod Bulk
 pub mod Places
+pub mod Reserved
 pub mod Spans
-pub mod Within

@@ -7,7 +7,7 @@ ghost use Rattle.art_tree.specs.Content.{room};
 ghost use Rattle.art_tree.specs.Pairs.{pairs_of};
 
 use crate::parting::take_pairs;
-use crate::placing::{add_reserved, put_reserved};
+use crate::placing::{insert_absent_reserved, replace_reserved};
 use art_tree::{Pairs, Tree};
 use blart_keys::NoPrefixesBytes;
 use std::alloc::{AllocError, Global};
@@ -56,7 +56,7 @@ fn move_all<K: NoPrefixesBytes + Drop, V: Drop, const P: usize>(
     to.law();
     let mut from = from;
     while let Some((key, value)) = from.take_first() {
-        put_reserved(to, key, value);
+        replace_reserved(to, key, value);
     }
     drop(from);
 }
@@ -75,7 +75,7 @@ fn add_all<K: NoPrefixesBytes + Drop, V: Drop, const P: usize>(
     to.law();
     let mut from = from;
     while let Some((key, value)) = from.take_first() {
-        add_reserved(to, key, value);
+        insert_absent_reserved(to, key, value);
     }
     drop(from);
 }

@@ -14,6 +14,7 @@ pub use append::move_into;
 pub use ascending::put_ascending;
 pub use parting::part;
 pub use placing::{
-    exchange, lawful_point, place_ready, put, put_lawful, put_lawful_within, put_within, room_for,
+    insert, insert_disjoint, insert_disjoint_reserved, insert_reserved, place_ready,
+    point_of_disjoint, replace, room_for,
 };
 pub use thinning::leave_one;

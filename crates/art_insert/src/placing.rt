@@ -1,4 +1,17 @@
-//! The point of a pair, room for it, and its placement.
+//! Insertions of one pair.
+//!
+//! A key type is *disjoint* if no key's bytes are a proper prefix of another key's bytes. Such keys
+//! never conflict. The calls in the last two columns take only keys of a disjoint type. The calls
+//! whose name ends in `_reserved` do not allocate, since the tree has room for the pair. The others
+//! may fail to allocate.
+//!
+//! | If the bytes are stored, the call | | reserved | disjoint | disjoint, reserved |
+//! |---|---|---|---|---|
+//! | keeps the key and sets the value | `insert` | `insert_reserved` | `insert_disjoint` | `insert_disjoint_reserved` |
+//! | replaces the pair | `replace` | | | `replace_reserved` |
+//! | changes nothing | | | | `insert_absent_reserved` |
+//! | returns the leaf and the new pair | `Tree::add` | `Tree::add_within` | `add_disjoint` | `add_disjoint_reserved` |
+//! | must not be made | `room_for`, then `place_ready` | `place_reserved` | | |
 ghost use Rattle.std.specs.Prelude.{◌≡◌, ◌≢◌, ◌+◌, ◌<◌, ◌≤◌, ℕ, true, false, option_map, Some, None, Ok, IfOk, OnErr};
 ghost use Rattle.blart_keys.specs.Content.{stores, conflict, IsContent, IsPut};
 ghost use Rattle.blart_keys.specs.Steps.{bytes as pair_bytes, Puts, Inserts};
@@ -9,14 +22,14 @@ ghost use Rattle.art_tree.specs.Points.{IsGood};
 ghost use Rattle.art_tree.specs.declared.tree.point.Point.TheVariants.{Exact, Related};
 ghost use Rattle.art_tree.specs.Pairs.{pairs_of};
 ghost use Rattle.art_insert.specs.Places.{IsReady, IsPlaced};
-ghost use Rattle.art_insert.specs.Within.{as_tried, added, added_ok};
+ghost use Rattle.art_insert.specs.Reserved.{as_tried, added, added_ok};
 ghost use Rattle.art_tree.specs.Adding.{Adds};
 ghost use Rattle.art_tree.specs.declared.tree.add.Added.TheVariants.{Conflict};
 
 use art_tree::{Added, LeafId, Point, Tree, Visits};
 use blart_keys::{AsBytes, InsertPrefixError, NoPrefixesBytes, TryInsertError};
 use std::alloc::AllocError;
-use std::mem::replace;
+use std::mem;
 
 /// Makes room for a pair with this key, which is related to no stored key, and returns its point.
 /// Returns an error if it fails to allocate. The pairs are unchanged in both cases.
@@ -57,10 +70,13 @@ pub fn place_ready<K: AsBytes + Drop, V: Drop, const P: usize>(
     id
 }
 
-/// Returns the point of a key that never conflicts: its leaf, or where it would go.
-pub fn lawful_point<K: NoPrefixesBytes, V, const P: usize>(tree: &Tree<K, V, P>, key: &K) -> Point
+/// Returns the point of a key of a disjoint type: its leaf, or the place where it would go.
+pub fn point_of_disjoint<K: NoPrefixesBytes, V, const P: usize>(
+    tree: &Tree<K, V, P>,
+    key: &K,
+) -> Point
     ensures good { IsGood K.bytes tree.now.pairs result (K.bytes key.now) }
-    ensures lawful { (i j : ℕ) → result ≢ Related i j }
+    ensures disjoint { (i j : ℕ) → result ≢ Related i j }
     ensures content { IsContent (bytes K.bytes) tree.now.pairs }
     ensures distinct { AreDistinct tree.now.pairs }
 {
@@ -76,14 +92,14 @@ pub fn lawful_point<K: NoPrefixesBytes, V, const P: usize>(tree: &Tree<K, V, P>,
     }
 }
 
-/// Adds a pair whose key never conflicts, like [`Tree::add`].
-fn add_lawful<K: NoPrefixesBytes + Drop, V: Drop, const P: usize>(
+/// Adds a pair with a key of a disjoint type, like [`Tree::add`].
+fn add_disjoint<K: NoPrefixesBytes + Drop, V: Drop, const P: usize>(
     tree: &mut Tree<K, V, P>,
     key: K,
     value: V,
 ) -> Result<Added<LeafId, K, V>, AllocError>
     ensures added { Adds K.bytes tree.old tree.new (key, value) result }
-    ensures lawful { (i : ℕ) (k : K) (v : V) → result ≢ Ok (Conflict i k v) }
+    ensures disjoint { (i : ℕ) (k : K) (v : V) → result ≢ Ok (Conflict i k v) }
     ensures content { IsContent (bytes K.bytes) tree.old.pairs }
     ensures distinct { AreDistinct tree.old.pairs }
 {
@@ -99,15 +115,15 @@ fn add_lawful<K: NoPrefixesBytes + Drop, V: Drop, const P: usize>(
     }
 }
 
-/// Adds a pair whose key never conflicts and for which there is room, like [`Tree::add_within`].
-fn add_lawful_within<K: NoPrefixesBytes + Drop, V: Drop, const P: usize>(
+/// Adds a pair with a key of a disjoint type, like [`Tree::add_within`].
+fn add_disjoint_reserved<K: NoPrefixesBytes + Drop, V: Drop, const P: usize>(
     tree: &mut Tree<K, V, P>,
     key: K,
     value: V,
 ) -> Added<LeafId, K, V>
     requires { 0 < room tree.old }
     ensures added { Adds K.bytes tree.old tree.new (key, value) (Ok result) }
-    ensures lawful { (i : ℕ) (k : K) (v : V) → result ≢ Conflict i k v }
+    ensures disjoint { (i : ℕ) (k : K) (v : V) → result ≢ Conflict i k v }
     ensures room { room tree.old ≤ room tree.new + 1 }
     ensures content { IsContent (bytes K.bytes) tree.old.pairs }
     ensures distinct { AreDistinct tree.old.pairs }
@@ -124,7 +140,7 @@ fn add_lawful_within<K: NoPrefixesBytes + Drop, V: Drop, const P: usize>(
     }
 }
 
-/// Places a pair whose key is related to no stored key. Uses the room of one placement.
+/// Places a pair whose key is related to no stored key. Uses the room of one pair.
 pub(crate) fn place_reserved<K: AsBytes + Drop, V: Drop, const P: usize>(
     tree: &mut Tree<K, V, P>,
     key: K,
@@ -144,8 +160,8 @@ pub(crate) fn place_reserved<K: AsBytes + Drop, V: Drop, const P: usize>(
     }
 }
 
-/// Replaces the pair with the same bytes, or adds the pair. Uses the room of at most one placement.
-pub(crate) fn put_reserved<K: NoPrefixesBytes + Drop, V: Drop, const P: usize>(
+/// Replaces the pair with the same bytes, or adds the pair. Uses the room of at most one pair.
+pub(crate) fn replace_reserved<K: NoPrefixesBytes + Drop, V: Drop, const P: usize>(
     tree: &mut Tree<K, V, P>,
     key: K,
     value: V,
@@ -155,7 +171,7 @@ pub(crate) fn put_reserved<K: NoPrefixesBytes + Drop, V: Drop, const P: usize>(
         (pairs_of tree.new.pairs) }
     ensures room { room tree.old ≤ room tree.new + 1 }
 {
-    match add_lawful_within(tree, key, value) {
+    match add_disjoint_reserved(tree, key, value) {
         Added::Placed => {}
         Added::Stored(id, key, value) => {
             tree.swap(id, key, value);
@@ -164,8 +180,8 @@ pub(crate) fn put_reserved<K: NoPrefixesBytes + Drop, V: Drop, const P: usize>(
     }
 }
 
-/// Adds a pair if its bytes are new, or else drops it. Uses the room of at most one placement.
-pub(crate) fn add_reserved<K: NoPrefixesBytes + Drop, V: Drop, const P: usize>(
+/// Adds a pair if its bytes are new, or else drops it. Uses the room of at most one pair.
+pub(crate) fn insert_absent_reserved<K: NoPrefixesBytes + Drop, V: Drop, const P: usize>(
     tree: &mut Tree<K, V, P>,
     key: K,
     value: V,
@@ -178,17 +194,16 @@ pub(crate) fn add_reserved<K: NoPrefixesBytes + Drop, V: Drop, const P: usize>(
         → tree.new.pairs ≡ tree.old.pairs }
     ensures room { room tree.old ≤ room tree.new + 1 }
 {
-    match add_lawful_within(tree, key, value) {
+    match add_disjoint_reserved(tree, key, value) {
         Added::Placed => {}
         Added::Stored(_id, _key, _value) => {}
         Added::Conflict(_first, _key, _value) => unreachable!(),
     }
 }
 
-/// Puts a pair for which there is room, and returns the old value of its key. A stored key is
-/// unchanged. Returns an error if the key conflicts. Uses the room of one placement if the pair is
-/// added.
-pub fn put_within<K: AsBytes + Drop, V: Drop, const P: usize>(
+/// Inserts a pair like [`insert`], into a tree that has room for it. Returns an error if the key
+/// conflicts. Uses the room of one pair if the pair is added.
+pub fn insert_reserved<K: AsBytes + Drop, V: Drop, const P: usize>(
     tree: &mut Tree<K, V, P>,
     key: K,
     value: V,
@@ -202,13 +217,13 @@ pub fn put_within<K: AsBytes + Drop, V: Drop, const P: usize>(
     tree.law();
     match tree.add_within(key, value) {
         Added::Placed => Ok(None),
-        Added::Stored(id, _key, value) => Ok(Some(replace(tree.value_mut(id), value))),
+        Added::Stored(id, _key, value) => Ok(Some(mem::replace(tree.value_mut(id), value))),
         Added::Conflict(_first, _key, _value) => Err(InsertPrefixError),
     }
 }
 
-/// Puts a pair whose key never conflicts and for which there is room, like [`put_within`].
-pub fn put_lawful_within<K: NoPrefixesBytes + Drop, V: Drop, const P: usize>(
+/// Inserts a pair with a key of a disjoint type, like [`insert_reserved`].
+pub fn insert_disjoint_reserved<K: NoPrefixesBytes + Drop, V: Drop, const P: usize>(
     tree: &mut Tree<K, V, P>,
     key: K,
     value: V,
@@ -220,16 +235,16 @@ pub fn put_lawful_within<K: NoPrefixesBytes + Drop, V: Drop, const P: usize>(
         (kept K.bytes (pairs_of tree.old.pairs) (key, value)) (pairs_of tree.new.pairs) }
     ensures room { room tree.old ≤ room tree.new + added result }
 {
-    match add_lawful_within(tree, key, value) {
+    match add_disjoint_reserved(tree, key, value) {
         Added::Placed => None,
-        Added::Stored(id, _key, value) => Some(replace(tree.value_mut(id), value)),
+        Added::Stored(id, _key, value) => Some(mem::replace(tree.value_mut(id), value)),
         Added::Conflict(_first, _key, _value) => unreachable!(),
     }
 }
 
-/// Puts a pair whose key never conflicts, and returns the old value of its key. A stored key is
-/// unchanged. Returns an error if it fails to allocate, and the pairs are then unchanged.
-pub fn put_lawful<K: NoPrefixesBytes + Drop, V: Drop, const P: usize>(
+/// Inserts a pair with a key of a disjoint type, like [`insert`]. Returns an error if it fails to
+/// allocate, and the pairs are then unchanged.
+pub fn insert_disjoint<K: NoPrefixesBytes + Drop, V: Drop, const P: usize>(
     tree: &mut Tree<K, V, P>,
     key: K,
     value: V,
@@ -238,17 +253,18 @@ pub fn put_lawful<K: NoPrefixesBytes + Drop, V: Drop, const P: usize>(
         (kept K.bytes (pairs_of tree.old.pairs) (key, value)) result (pairs_of tree.new.pairs) }
     ensures err { OnErr result (tree.new.pairs ≡ tree.old.pairs) }
 {
-    match add_lawful(tree, key, value) {
+    match add_disjoint(tree, key, value) {
         Ok(Added::Placed) => Ok(None),
-        Ok(Added::Stored(id, _key, value)) => Ok(Some(replace(tree.value_mut(id), value))),
+        Ok(Added::Stored(id, _key, value)) => Ok(Some(mem::replace(tree.value_mut(id), value))),
         Ok(Added::Conflict(_first, _key, _value)) => unreachable!(),
         Err(refused) => Err(refused),
     }
 }
 
-/// Puts a pair, and returns the old value of its key. A stored key is unchanged. Returns an error
-/// if the key conflicts or if it fails to allocate, and the pairs are then unchanged.
-pub fn put<K: AsBytes + Drop, V: Drop, const P: usize>(
+/// Sets the value of the stored key with the same bytes and returns the old value, or adds the pair.
+/// A stored key is unchanged. Returns an error if the key conflicts or if it fails to allocate, and
+/// the pairs are then unchanged.
+pub fn insert<K: AsBytes + Drop, V: Drop, const P: usize>(
     tree: &mut Tree<K, V, P>,
     key: K,
     value: V,
@@ -261,16 +277,16 @@ pub fn put<K: AsBytes + Drop, V: Drop, const P: usize>(
     match tree.add(key, value) {
         Ok(Added::Placed) => Ok(None),
         Ok(Added::Stored(stored, _key, value)) => {
-            Ok(Some(replace(tree.value_mut(stored), value)))
+            Ok(Some(mem::replace(tree.value_mut(stored), value)))
         }
         Ok(Added::Conflict(_first, _key, _value)) => Err(TryInsertError::Prefix(InsertPrefixError)),
         Err(refused) => Err(TryInsertError::Memory(refused)),
     }
 }
 
-/// Puts a pair, and returns the old pair of its key's bytes. Returns an error if the key conflicts
-/// or if it fails to allocate, and the pairs are then unchanged.
-pub fn exchange<K: AsBytes + Drop, V: Drop, const P: usize>(
+/// Replaces the stored pair with the same bytes and returns the old pair, or adds the pair. Returns
+/// an error if the key conflicts or if it fails to allocate, and the pairs are then unchanged.
+pub fn replace<K: AsBytes + Drop, V: Drop, const P: usize>(
     tree: &mut Tree<K, V, P>,
     key: K,
     value: V,

@@ -1,5 +1,5 @@
 -- One pair on which a closure is called, in a walk that extracts.
-use Rattle.std.proofs.Common.{◌≡◌, ℕ, suc, ◌<◌, ◌≤◌, List, length, Option, Some, Bool, true, false, refl, sym, ◌∙◌, ap, subst, arith}
+use Rattle.std.proofs.Common.{◌≡◌, ℕ, ◌<◌, ◌≤◌, List, length, Option, Some, Bool, true, false, refl, sym, ◌∙◌, ap, subst, arith}
 use Rattle.std.specs.Borrow.{Bor, MutBor}
 use Rattle.std.specs.Map.Calls.{CalledAtPair}
 use denote.Param.Members.{Mut}
@@ -10,12 +10,6 @@ use Rattle.art_walk.specs.Cursor.{leaves_left, FitsIn}
 use Rattle.art_walk.specs.Extracting.{Extraction, ExtractsFirstTrue, stands_at}
 use Rattle.art_walk.proofs.Passing.{in_turn, Passed, same_written, named_written, is_removed, same_removed, fewer_left}
 use Rattle.art_walk.proofs.Callable.{Callable, callable_left}
-
-le_step : (a b t : ℕ) → suc a ≡ b → b ≤ t → a ≤ t
-le_step a b t e l = omega arith
-
-lt_step : (a b t : ℕ) → suc a ≡ b → b ≤ t → a < t
-lt_step a b t e l = omega arith
 
 module _ {K V F : Type 0} (g : Mut F (Bor K × (MutBor V × Unit {0})) (Bool × (MutBor V × Unit {0}))) where
   -- a walk from the front, or from the back, in which the closure has only returned false: what it
@@ -36,7 +30,7 @@ module _ {K V F : Type 0} (g : Mut F (Bor K × (MutBor V × Unit {0})) (Bool × 
           callable = callable_left g p f e.callable b w h called s;
           fits = s.fits;
           distinct = s.distinct;
-          fewer = le_step _ _ _ (fewer_left p s) e.fewer;
+          fewer = omega (arith, fewer_left p s, e.fewer);
           extracts = λ r t a.
               let rest = subst (λ (l : List (Numbered K V)). ExtractsFirstTrue g (stands_at (with_value ps id w) h (in_turn is_front l)) r t) s.same a in
               e.extracts r t (subst (λ (l : List (Numbered K V)). ExtractsFirstTrue g (stands_at ps f l) r t) (sym p.turned) (b, w, h, p.named, called, rw said rest));
@@ -57,5 +51,5 @@ module _ {K V F : Type 0} (g : Mut F (Bor K × (MutBor V × Unit {0})) (Bool × 
           extracts = e.extracts (Some r) t (subst (λ (l : List (Numbered K V)). ExtractsFirstTrue g (stands_at ps f l) (Some r) t) (sym p.turned)
               (b, w, h, p.named, called, rw said (sym value ∙ named_written p w, is_removed p w rs gone, refl, ap (in_turn is_front) s.same)));
           callable = callable_left g p f e.callable b w h called s;
-          fewer = lt_step _ _ _ (fewer_left p s) e.fewer;
+          fewer = omega (arith, fewer_left p s, e.fewer);
         }

@@ -77,7 +77,7 @@ impl<'a, K: AsBytes, V, const PREFIX_LEN: usize> BoundedIter<'a, K, V, InRange, 
     {
         let cursor = Cursor::range(tree, start, end, visits);
         BoundedIter {
-            walk: Walk::new(tree, cursor.ends()),
+            walk: Walk::new(tree, cursor.ends),
             kind: PhantomData,
         }
     }
@@ -99,7 +99,7 @@ impl<'a, K: AsBytes, V, const PREFIX_LEN: usize> BoundedIter<'a, K, V, BelowFron
     {
         let cursor = Cursor::prefix(tree, front, visits);
         BoundedIter {
-            walk: Walk::new(tree, cursor.ends()),
+            walk: Walk::new(tree, cursor.ends),
             kind: PhantomData,
         }
     }

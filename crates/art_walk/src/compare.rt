@@ -14,7 +14,7 @@ use std::iter::Iterator;
 /// number of pairs.
 ///
 /// Cost: one pass over both walks, up to the first difference.
-pub fn are_same<K: PartialEq, V: PartialEq, const P: usize>(
+pub fn eq<K: PartialEq, V: PartialEq, const P: usize>(
     left: &mut Iter<'_, K, V, P>,
     right: &mut Iter<'_, K, V, P>,
 ) -> bool
@@ -26,7 +26,7 @@ pub fn are_same<K: PartialEq, V: PartialEq, const P: usize>(
         let Some((other, its)) = right.next() else {
             return false;
         };
-        if !is_same(key, value, other, its) {
+        if !pair_eq(key, value, other, its) {
             return false;
         }
     }
@@ -34,7 +34,7 @@ pub fn are_same<K: PartialEq, V: PartialEq, const P: usize>(
 }
 
 /// Returns `true` if two pairs have equal keys and equal values.
-fn is_same<K: PartialEq, V: PartialEq>(key: &K, value: &V, other: &K, its: &V) -> bool
+fn pair_eq<K: PartialEq, V: PartialEq>(key: &K, value: &V, other: &K, its: &V) -> bool
     ensures { result ≡ (K.eq key.now other.now && V.eq value.now its.now) }
 {
     key == other && value == its
@@ -44,7 +44,7 @@ fn is_same<K: PartialEq, V: PartialEq>(key: &K, value: &V, other: &K, its: &V) -
 /// Returns `None` if those pairs cannot be compared.
 ///
 /// Cost: one pass over both walks, up to the pairs that decide.
-pub fn partial_order<K: PartialOrd, V: PartialOrd, const P: usize>(
+pub fn partial_cmp<K: PartialOrd, V: PartialOrd, const P: usize>(
     left: &mut Iter<'_, K, V, P>,
     right: &mut Iter<'_, K, V, P>,
 ) -> Option<Ordering>
@@ -57,7 +57,7 @@ pub fn partial_order<K: PartialOrd, V: PartialOrd, const P: usize>(
         let Some((other, its)) = right.next() else {
             return Some(Ordering::Greater);
         };
-        let found = partial_pair(key, value, other, its);
+        let found = pair_partial_cmp(key, value, other, its);
         if !matches!(found, Some(Ordering::Equal)) {
             return found;
         }
@@ -70,7 +70,7 @@ pub fn partial_order<K: PartialOrd, V: PartialOrd, const P: usize>(
 
 /// Compares two pairs by their keys, or by their values if the keys are equal. Returns `None` if
 /// these cannot be compared.
-fn partial_pair<K: PartialOrd, V: PartialOrd>(
+fn pair_partial_cmp<K: PartialOrd, V: PartialOrd>(
     key: &K,
     value: &V,
     other: &K,
@@ -89,7 +89,7 @@ fn partial_pair<K: PartialOrd, V: PartialOrd>(
 /// Compares two lists of pairs. The first two pairs that are not equal decide, or else the lengths.
 ///
 /// Cost: one pass over both walks, up to the pairs that decide.
-pub fn order<K: Ord, V: Ord, const P: usize>(
+pub fn cmp<K: Ord, V: Ord, const P: usize>(
     left: &mut Iter<'_, K, V, P>,
     right: &mut Iter<'_, K, V, P>,
 ) -> Ordering
@@ -101,7 +101,7 @@ pub fn order<K: Ord, V: Ord, const P: usize>(
         let Some((other, its)) = right.next() else {
             return Ordering::Greater;
         };
-        let found = order_of_pairs(key, value, other, its);
+        let found = pair_cmp(key, value, other, its);
         if found.is_ne() {
             return found;
         }
@@ -113,7 +113,7 @@ pub fn order<K: Ord, V: Ord, const P: usize>(
 }
 
 /// Compares two pairs by their keys, or by their values if the keys are equal.
-fn order_of_pairs<K: Ord, V: Ord>(key: &K, value: &V, other: &K, its: &V) -> Ordering
+fn pair_cmp<K: Ord, V: Ord>(key: &K, value: &V, other: &K, its: &V) -> Ordering
     ensures { result ≡ ordering_then (K.cmp key.now other.now) (V.cmp value.now its.now) }
 {
     match key.cmp(other) {
@@ -125,7 +125,7 @@ fn order_of_pairs<K: Ord, V: Ord>(key: &K, value: &V, other: &K, its: &V) -> Ord
 /// Feeds a hasher the number of pairs, and then each key and its value.
 ///
 /// Cost: one pass.
-pub fn feed<K: Hash, V: Hash, H: Hasher, const P: usize>(walk: Iter<'_, K, V, P>, state: &mut H)
+pub fn hash<K: Hash, V: Hash, H: Hasher, const P: usize>(walk: Iter<'_, K, V, P>, state: &mut H)
     ensures { state.new
         ≡ fold H.write state.old
         (fed.slice (λ p. K.hash_input p.0 ++ V.hash_input p.1) walk.entry) }

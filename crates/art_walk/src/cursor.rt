@@ -40,7 +40,6 @@ fn without_last<K: AsBytes, V, const PREFIX_LEN: usize>(
     ensures one { first ≡ last → result ≡ None }
     ensures more { first ≢ last → result
         ≡ option_map (λ id. (first, id)) (number_before tree.now.pairs last) }
-    ensures stays { IfSome result (λ ends. ends.0 ≡ first) }
 {
     if last == first {
         return None;
@@ -53,8 +52,8 @@ fn without_last<K: AsBytes, V, const PREFIX_LEN: usize>(
 /// no reference to the tree. Each step takes the tree.
 #[derive(Clone, Copy)]
 pub struct Cursor {
-    /// The first and the last leaf.
-    ends: Option<(LeafId, LeafId)>,
+    /// The first and the last leaf that are left.
+    pub(crate) ends: Option<(LeafId, LeafId)>,
     /// Guesses of their positions. If they are right, a step searches no row.
     first_at: Position,
     last_at: Position,
@@ -86,13 +85,6 @@ impl Cursor {
             first_at: Position::unknown(),
             last_at: Position::unknown(),
         }
-    }
-
-    /// Returns the first and the last leaf that are left.
-    pub(crate) fn ends(&self) -> Option<(LeafId, LeafId)>
-        ensures { result ≡ self.now.ends }
-    {
-        self.ends
     }
 
     /// Returns a cursor over all leaves of the tree.

@@ -37,7 +37,7 @@ impl<'a, K: AsBytes, V, const PREFIX_LEN: usize> Iter<'a, K, V, PREFIX_LEN> {
     {
         let cursor = Cursor::all(tree);
         Iter {
-            walk: Walk::new(tree, cursor.ends()),
+            walk: Walk::new(tree, cursor.ends),
             left: tree.len(),
         }
     }

@@ -18,7 +18,7 @@ mod retaining;
 mod seeks;
 
 pub use bounded_iter::{BoundedIter, Prefix, Range, SubtreeIter};
-pub use compare::{are_same, feed, order, partial_order};
+pub use compare::{cmp, eq, hash, partial_cmp};
 pub use cursor::Cursor;
 pub use each::{write_pairs, write_values};
 pub use extracting::{extract_first, extract_last};

@@ -26,8 +26,7 @@ pub use Rattle.blart_map.specs.Entry.{entry_ref, entry_pair, entry_value, entry_
 pub use Rattle.blart_map.specs.InnerEntry.{inner_ref, inner_key}
 pub use Rattle.blart_map.specs.PrefixEntry.{prefix_ref}
 -- a map and a set with reserved room: the reference, what it will hold, and how much room is left
-pub use Rattle.blart_map.specs.Reserved.{reserved_map, held, room_left}
-pub use Rattle.blart_map.specs.Within.{as_tried, added, added_ok}
+pub use Rattle.blart_map.specs.Reserved.{reserved_map, held, room_left, as_tried, added, added_ok}
 pub use Rattle.blart_set.specs.Reserved.{reserved_set, held_elements, elements_left, added_new, added_new_ok}
 -- what a walk returned
 pub use Rattle.blart_keys.specs.Walks.{TakesFirst, TakesLast, Walked}

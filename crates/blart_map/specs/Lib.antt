@@ -26,4 +26,3 @@ pub mod OnceWritten
 pub mod OnceTaken
 pub mod EachWritten
 pub mod Reserved
-pub mod Within

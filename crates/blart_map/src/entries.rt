@@ -237,7 +237,7 @@ impl<K: NoPrefixesBytes + Drop, V, const PREFIX_LEN: usize> TreeMap<K, V, PREFIX
         ensures unchanged { (entry_ref result).now ≡ self.old }
         ensures is_for { IsEntryFor (pairs self.old) key result }
     {
-        match self.lawful_leaf(&key) {
+        match self.leaf_of_disjoint(&key) {
             Some(id) => Entry::Occupied(OccupiedEntry {
                 map: self,
                 id,

@@ -14,7 +14,7 @@ ghost use Rattle.art_insert.specs.Places.{IsPlaced};
 
 use crate::map::TreeMap;
 use crate::occupied::{Occupied, OccupiedEntry};
-use art_insert::{lawful_point, place_ready, room_for};
+use art_insert::{place_ready, point_of_disjoint, room_for};
 use art_tree::{LeafId, Point, Visits};
 use art_walk::SubtreeIter;
 use blart_keys::{AsBytes, NoPrefixesBytes};
@@ -99,7 +99,7 @@ impl<K: AsBytes, V, const PREFIX_LEN: usize> TreeMap<K, V, PREFIX_LEN> {
 impl<K: NoPrefixesBytes, V, const PREFIX_LEN: usize> TreeMap<K, V, PREFIX_LEN> {
     /// Returns the leaf of the key. If there is none, a pair with the key may be placed, since the
     /// key never conflicts.
-    pub(crate) fn lawful_leaf(&self, key: &K) -> Option<LeafId>
+    pub(crate) fn leaf_of_disjoint(&self, key: &K) -> Option<LeafId>
         ensures there { IfSome result (λ id. Has self.now id) }
         ensures good { IfSome result
             (λ id. IsGood K.bytes self.now (Exact id) (K.bytes key.now)) }
@@ -110,7 +110,7 @@ impl<K: NoPrefixesBytes, V, const PREFIX_LEN: usize> TreeMap<K, V, PREFIX_LEN> {
         ensures content { IsContent (bytes K.bytes) self.now }
         ensures distinct { AreDistinct self.now }
     {
-        match lawful_point(&self.tree, key) {
+        match point_of_disjoint(&self.tree, key) {
             Point::Exact(id) => Some(id),
             _ => None,
         }

@@ -29,7 +29,7 @@ impl<K: NoPrefixesBytes + Drop, V: Drop, const PREFIX_LEN: usize> TreeMap<K, V, 
             (λ r. r.now ≡ unwrap_or (value_at K.bytes (pairs self.old) (K.bytes key)) value) }
         ensures absent { OnErr result (has K.bytes (pairs self.old) (K.bytes key) ≡ false) }
     {
-        match self.lawful_leaf(&key) {
+        match self.leaf_of_disjoint(&key) {
             Some(id) => Ok(self.value_mut(id)),
             None => match self.place_new(key, value) {
                 Ok(id) => Ok(self.value_mut(id)),
@@ -58,7 +58,7 @@ impl<K: NoPrefixesBytes + Drop, V: Drop, const PREFIX_LEN: usize> TreeMap<K, V, 
             (value_at K.bytes (pairs self.old) (K.bytes key)) (F.post value) r.now) }
         ensures absent { OnErr result (has K.bytes (pairs self.old) (K.bytes key) ≡ false) }
     {
-        match self.lawful_leaf(&key) {
+        match self.leaf_of_disjoint(&key) {
             Some(leaf) => Ok(self.value_mut(leaf)),
             None => match self.place_new_with(key, value) {
                 Ok(id) => Ok(self.value_mut(id)),

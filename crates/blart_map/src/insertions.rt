@@ -7,7 +7,7 @@ ghost use Rattle.blart_map.specs.Content.{pairs};
 ghost use Rattle.blart_keys.specs.Routed.{OverlapsToo};
 
 use crate::map::TreeMap;
-use art_insert::{exchange, put, put_lawful};
+use art_insert::{insert, insert_disjoint, replace};
 use blart_keys::{AsBytes, NoPrefixesBytes, TryInsertError};
 use std::alloc::AllocError;
 
@@ -53,7 +53,7 @@ impl<K: AsBytes + Drop, V: Drop, const PREFIX_LEN: usize> TreeMap<K, V, PREFIX_L
             (pairs self.new) }
     {
         self.law();
-        put(&mut self.tree, key, value)
+        insert(&mut self.tree, key, value)
     }
 
     /// Replaces the pair with the same bytes and returns the old pair, or inserts the pair and
@@ -84,7 +84,7 @@ impl<K: AsBytes + Drop, V: Drop, const PREFIX_LEN: usize> TreeMap<K, V, PREFIX_L
             result (pairs self.new) }
     {
         self.law();
-        exchange(&mut self.tree, key, value)
+        replace(&mut self.tree, key, value)
     }
 }
 
@@ -123,6 +123,6 @@ impl<K: NoPrefixesBytes + Drop, V: Drop, const PREFIX_LEN: usize> TreeMap<K, V, 
             (kept K.bytes (pairs self.old) (key, value)) result (pairs self.new) }
     {
         self.law();
-        put_lawful(&mut self.tree, key, value)
+        insert_disjoint(&mut self.tree, key, value)
     }
 }

@@ -6,10 +6,10 @@ ghost use Rattle.blart_keys.specs.Content.{IsContent, IsPut};
 ghost use Rattle.blart_keys.specs.Steps.{bytes, Puts};
 ghost use Rattle.blart_keys.specs.Stored.{kept, pair_at_front, value_at, overlaps, Updates};
 ghost use Rattle.art_tree.specs.Content.{room};
-ghost use Rattle.blart_map.specs.Within.{as_tried, added, added_ok};
+ghost use Rattle.art_insert.specs.Reserved.{as_tried, added, added_ok};
 
 use crate::map::TreeMap;
-use art_insert::{put_lawful_within, put_within};
+use art_insert::{insert_disjoint_reserved, insert_reserved};
 use art_tree::Tree;
 use blart_keys::{AsBytes, InsertPrefixError, NoPrefixesBytes};
 use std::alloc::AllocError;
@@ -196,7 +196,7 @@ impl<K: AsBytes + Drop, V: Drop, const PREFIX_LEN: usize> Room<K, V, PREFIX_LEN>
         self.law();
         // The count goes down first, so that it never promises more room than there is.
         self.left -= 1;
-        let old = put_within(&mut self.tree, key, value);
+        let old = insert_reserved(&mut self.tree, key, value);
         self.left += !matches!(old, Ok(None)) as usize;
         old
     }
@@ -226,7 +226,7 @@ impl<K: NoPrefixesBytes + Drop, V: Drop, const PREFIX_LEN: usize> Room<K, V, PRE
     {
         self.law();
         self.left -= 1;
-        let old = put_lawful_within(&mut self.tree, key, value);
+        let old = insert_disjoint_reserved(&mut self.tree, key, value);
         self.left += old.is_some() as usize;
         old
     }

@@ -8,7 +8,7 @@ use Rattle.blart_keys.specs.declared.calls.InsertPrefixError.{InsertPrefixError}
 use Rattle.blart_keys.specs.Content.{at, conflict, stores, IsContent, IsPut}
 use Rattle.blart_keys.specs.Steps.{bytes, Puts}
 use Rattle.blart_keys.specs.Stored.{kept, kept_item}
-use Rattle.blart_map.specs.Within.{as_tried}
+use Rattle.blart_map.specs.Reserved.{as_tried}
 use Rattle.blart_map.proofs.Beneath.{tried_len}
 use Rattle.blart_set.proofs.Pairs.{told, keys, conflict-keys, puts-new, puts-put, puts-free}
 

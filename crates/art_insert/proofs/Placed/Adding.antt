@@ -17,7 +17,7 @@ use Rattle.art_tree.specs.Content.{Content}
 use Rattle.art_tree.specs.Leaves.{Numbered, leaf_in, Has, AreDistinct, with_pair, with_value, bytes}
 use Rattle.art_tree.specs.Pairs.{pairs_of}
 use Rattle.art_tree.specs.Takes.{MayTake}
-use Rattle.art_insert.proofs.Placed.Inserting.{conflict_pairs, exact_has, exact_takes, related_first, exchanged, lawful}
+use Rattle.art_insert.proofs.Placed.Inserting.{conflict_pairs, exact_has, exact_takes, related_first, exchanged, disjoint_unrelated}
 use Rattle.art_insert.proofs.Placed.Keeping.{added_kept, value_put}
 
 module _ {K V : Type 0} (kb : K → Bytes) (old new : Content K V) (x : K × V) {r : Result (Added ℕ K V) AllocError} (adds : Adds kb old new x r) where
@@ -54,10 +54,10 @@ module _ {K V : Type 0} (kb : K → Bytes) (old new : Content K V) (x : K × V) 
           subst (λ (t : Content K V). Has t.pairs first) (sym conflicted.2) (is_some (leaf_in old.pairs first) r.0 r.1)
 
       -- if no key is a proper prefix of another, there is no conflict
-      pub added_unlawful : (IsValue : K → Type 0) → NoFronts kb IsValue → IsValue k → (y : K × V) → leaf_in new.pairs first ≡ Some y → IsValue y.0 → ⊥
-      added_unlawful IsValue law own y here other =
+      pub disjoint_no_conflict : (IsValue : K → Type 0) → NoFronts kb IsValue → IsValue k → (y : K × V) → leaf_in new.pairs first ≡ Some y → IsValue y.0 → ⊥
+      disjoint_no_conflict IsValue law own y here other =
           let e : k ≡ x.0 = ap (λ (y : K × V). y.0) conflicted.1 in
-          lawful kb old.pairs content distinct x IsValue law (subst IsValue e own) first conflicted.0.0 conflicted.0.1 y (subst (λ (t : Content K V). leaf_in t.pairs first ≡ Some y) conflicted.2 here) other
+          disjoint_unrelated kb old.pairs content distinct x IsValue law (subst IsValue e own) first conflicted.0.0 conflicted.0.1 y (subst (λ (t : Content K V). leaf_in t.pairs first ≡ Some y) conflicted.2 here) other
 
   module _ {id : ℕ} {k : K} {v : V} (is : r ≡ Ok (Stored id k v)) where
     stored : Adds kb old new x (Ok (Stored id k v))

@@ -107,8 +107,8 @@ module _ {K V : Type 0} (kb : K → Bytes) (ps : List (Numbered K V)) where
       -- ---- keys that are never proper prefixes of one another
 
       -- a related key has the same bytes, and then nothing conflicts
-      pub lawful : (IsValue : K → Type 0) → NoFronts kb IsValue → IsValue x.0 → (first last : ℕ) → IsGood kb ps (Related first last) (kb x.0) → (y : K × V) → leaf_in ps first ≡ Some y → IsValue y.0 → ⊥
-      lawful IsValue law v first last good y l w =
+      pub disjoint_unrelated : (IsValue : K → Type 0) → NoFronts kb IsValue → IsValue x.0 → (first last : ℕ) → IsGood kb ps (Related first last) (kb x.0) → (y : K × V) → leaf_in ps first ≡ Some y → IsValue y.0 → ⊥
+      disjoint_unrelated IsValue law v first last good y l w =
           let r = related_first distinct (kb x.0) first last good in
           let f : Some r.0 ≡ Some y = sym r.1 ∙ l in
           let g : r.0 ≡ y = cc in

@@ -26,9 +26,6 @@ module _ {K V : Type 0} (kb : K → List ℕ) where
 
   module _ {R : Type 0} (tell : Option (K × V) → R) (S : List (K × V)) (x : K × V) (S' : List (K × V)) where
     -- a pair with new bytes is stored as it is
-    pub added_put : Puts kb {R = Unit {0}} (λ _. tt) S x x (Ok tt) S' → pair_at kb S (kb x.0) ≡ None → Puts kb tell S x x (Ok (tell None)) S'
-    unfolding pair_at
-    added_put put none = (put.0, put.1, sym (ap tell none))
-
     pub added_kept : Puts kb {R = Unit {0}} (λ _. tt) S x x (Ok tt) S' → pair_at kb S (kb x.0) ≡ None → Puts kb tell S x (kept kb S x) (Ok (tell None)) S'
-    added_kept put none = subst (λ y. Puts kb tell S x y (Ok (tell None)) S') (sym (kept_new kb S x none)) (added_put put none)
+    unfolding pair_at
+    added_kept put none = subst (λ y. Puts kb tell S x y (Ok (tell None)) S') (sym (kept_new kb S x none)) (put.0, put.1, sym (ap tell none))

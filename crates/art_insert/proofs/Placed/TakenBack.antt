@@ -1,14 +1,13 @@
 -- A pair that was placed and then removed.
-use Rattle.std.proofs.Common.{◌≡◌, ◌≢◌, ℕ, true, false, not, List, ap, sym, ◌∙◌, bytes_eq, refl, Option, Some, None, is_some}
+use Rattle.std.proofs.Common.{◌≡◌, ◌≢◌, ℕ, true, false, not, List, ap, sym, ◌∙◌, bytes_eq, None, is_some}
 use Rattle.std.proofs.lemmas.Bool.{false≢true, not-true, false_from_ne_true}
 use Rattle.std.specs.Cmp.Lexicographic.{bytes_decides}
-use Rattle.std.specs.FinSet as set
 use Rattle.blart_keys.specs.Content.{IsContent, IsPut, stores, without}
-use Rattle.blart_keys.specs.Fronts.{fronts}
 use Rattle.blart_keys.specs.Steps.{bytes}
 use Rattle.blart_keys.specs.Stored.{pair_at, has}
 use Rattle.blart_keys.proofs.ContentLemmas.{same_content, stores_missing}
 use Rattle.blart_keys.proofs.Mapped.{content_map, list_any-map}
+use Rattle.blart_keys.proofs.Options.{none_of}
 use Rattle.blart_keys.proofs.PutLemmas.{without_content}
 use Rattle.blart_keys.proofs.RankLemmas.{Contains-from_Member, Member-from_Contains, filter_member, member_filter}
 use Rattle.blart_keys.proofs.StoredLemmas.{stores_is}
@@ -32,17 +31,9 @@ module _ {K V : Type 0} (kb : K → List ℕ) (S S' : List (K × V)) (x : K × V
         Contains-from_Member y (without (bytes kb) S' (kb x.0)) (member_filter (λ (z : K × V). not (bytes_eq (kb z.0) (kb x.0))) S' y (Member-from_Contains y S' ((put.others y off).1 h)) test)),
   ))
 
-  -- the number of inner nodes is unchanged
-  pub taken_back_fronts : set.len (fronts (bytes kb) (without (bytes kb) S' (kb x.0))) ≡ set.len (fronts (bytes kb) S)
-  taken_back_fronts = ap (λ (T : List (K × V)). set.len (fronts (bytes kb) T)) taken_back
-
-none_of : {X : Type 0} (o : Option X) → is_some o ≡ false → o ≡ None
-none_of None h = refl
-none_of (Some x) h = absurd (false≢true (sym h))
-
 -- the same for numbered pairs, if the removal names the bytes
 pub taken_back_at : {K V : Type 0} (kb : K → List ℕ) (ps : List (Numbered K V)) (content : IsContent (leaf_bytes kb) ps) (k : K) (w : V) → stores (leaf_bytes kb) ps (kb k) ≡ false → (S : List (K × V)) → IsPut (bytes kb) (pairs_of ps) (k, w) S
     → (q : List ℕ) → q ≡ kb k → (T : List (K × V)) → T ≡ without (bytes kb) S q → T ≡ pairs_of ps
 taken_back_at kb ps content k w absent S put q same T gone =
     let none : has kb (pairs_of ps) (kb k) ≡ false = sym (stores_is kb (pairs_of ps) (kb k)) ∙ list_any-map (λ p. p.1) (λ x. bytes_eq (kb x.0) (kb k)) ps ∙ absent in
-    gone ∙ ap (without (bytes kb) S) same ∙ taken_back kb (pairs_of ps) S (k, w) (content_map (λ p. p.1) (bytes kb) ps content) (none_of (pair_at kb (pairs_of ps) (kb k)) none) put
+    gone ∙ ap (without (bytes kb) S) same ∙ taken_back kb (pairs_of ps) S (k, w) (content_map (λ p. p.1) (bytes kb) ps content) (none_of (pair_at kb (pairs_of ps) (kb k)) (λ t. false≢true (sym none ∙ t))) put

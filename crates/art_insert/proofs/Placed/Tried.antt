@@ -7,7 +7,7 @@ use Rattle.blart_keys.specs.Content.{IsContent}
 use Rattle.blart_keys.specs.Steps.{bytes, Puts}
 use Rattle.blart_keys.specs.Stored.{kept, value_at, pair_at_front, overlaps, Updates}
 use Rattle.blart_keys.proofs.StoredLemmas.{kept_bytes, puts_old, puts_updates, puts_value_len, puts_routes, puts_free}
-use Rattle.art_insert.specs.Within.{as_tried}
+use Rattle.art_insert.specs.Reserved.{as_tried}
 
 module _ {K V : Type 0} (kb : K → List ℕ) (S : List (K × V)) (x : K × V) (S' : List (K × V)) where
   abbrev Tried : Result (Option V) InsertPrefixError → Type 0

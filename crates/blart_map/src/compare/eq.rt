@@ -5,7 +5,6 @@ ghost use Rattle.std.specs.Cmp.Lexicographic.{pointwise, lists_per, lists_equiv}
 ghost use Rattle.blart_map.specs.Content.{pairs};
 
 use crate::map::TreeMap;
-use art_walk::are_same;
 use blart_keys::AsBytes;
 use std::cmp::{Eq, PartialEq};
 
@@ -26,7 +25,7 @@ impl<K: AsBytes + PartialEq, V: PartialEq, const PREFIX_LEN: usize> PartialEq
     /// assert!(left == right);
     /// ```
     fn eq(&self, other: &Self) -> bool {
-        self.len() == other.len() && are_same(&mut self.iter(), &mut other.iter())
+        self.len() == other.len() && art_walk::eq(&mut self.iter(), &mut other.iter())
     }
 }
 

@@ -5,7 +5,6 @@ ghost use Rattle.std.specs.Hash.{on_Alike, items_Alike, and-Alike};
 ghost use Rattle.blart_map.specs.Content.{pairs};
 
 use crate::map::TreeMap;
-use art_walk::feed;
 use blart_keys::AsBytes;
 use std::hash::{Hash, Hasher};
 
@@ -21,6 +20,6 @@ impl<K: AsBytes + Hash, V: Hash, const PREFIX_LEN: usize> Hash for TreeMap<K, V,
     ///
     /// Cost: one pass over the map.
     fn hash<H: Hasher>(&self, state: &mut H) {
-        feed(self.iter(), state);
+        art_walk::hash(self.iter(), state);
     }
 }

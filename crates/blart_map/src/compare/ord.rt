@@ -5,7 +5,6 @@ ghost use Rattle.std.specs.Ordering.{ordering_then, partial_ordering_then};
 ghost use Rattle.blart_map.specs.Content.{pairs};
 
 use crate::map::TreeMap;
-use art_walk::{order, partial_order};
 use blart_keys::AsBytes;
 use std::cmp::{Ord, Ordering, PartialOrd};
 
@@ -24,7 +23,7 @@ impl<K: AsBytes + PartialOrd, V: PartialOrd, const PREFIX_LEN: usize> PartialOrd
     ///
     /// Cost: one read of each pair of both maps, up to those two.
     fn partial_cmp(&self, other: &Self) -> Option<Ordering> {
-        partial_order(&mut self.iter(), &mut other.iter())
+        art_walk::partial_cmp(&mut self.iter(), &mut other.iter())
     }
 }
 
@@ -59,6 +58,6 @@ impl<K: AsBytes + Ord, V: Ord, const PREFIX_LEN: usize> Ord for TreeMap<K, V, PR
     /// assert!(left < right);
     /// ```
     fn cmp(&self, other: &Self) -> Ordering {
-        order(&mut self.iter(), &mut other.iter())
+        art_walk::cmp(&mut self.iter(), &mut other.iter())
     }
 }

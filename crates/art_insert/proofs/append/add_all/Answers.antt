@@ -32,8 +32,8 @@ loop-key-preserved g c =
     record {
       moved = i.moved ++ x ∷ [];
       whole = whole ∙ sym (append_assoc i.moved (x ∷ []) rest);
-      union = union_step (bytes kb) (pairs_of c.args.to.now.pairs) i.moved (pairs_of c.loop-key.to.pairs) (pairs_of c.add_reserved.new.tree.pairs) x i.union fresh c.add_reserved.ensures.added (λ t. ap pairs_of (c.add_reserved.ensures.stays t));
-      room = omega (arith, c.add_reserved.ensures.room, i.room);
+      union = union_step (bytes kb) (pairs_of c.args.to.now.pairs) i.moved (pairs_of c.loop-key.to.pairs) (pairs_of c.insert_absent_reserved.new.tree.pairs) x i.union fresh c.insert_absent_reserved.ensures.added (λ t. ap pairs_of (c.insert_absent_reserved.ensures.stays t));
+      room = omega (arith, c.insert_absent_reserved.ensures.room, i.room);
     }
 
 pub returns : goal.returns

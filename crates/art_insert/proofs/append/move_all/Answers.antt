@@ -32,8 +32,8 @@ loop-key-preserved g c =
     record {
       moved = i.moved ++ x ∷ [];
       whole = whole ∙ sym (append_assoc i.moved (x ∷ []) rest);
-      union = union_more (bytes kb) i.moved (pairs_of c.args.to.now.pairs) (pairs_of c.loop-key.to.pairs) (pairs_of c.put_reserved.new.tree.pairs) x i.union c.put_reserved.ensures.put fresh;
-      room = omega (arith, c.put_reserved.ensures.room, i.room);
+      union = union_more (bytes kb) i.moved (pairs_of c.args.to.now.pairs) (pairs_of c.loop-key.to.pairs) (pairs_of c.replace_reserved.new.tree.pairs) x i.union c.replace_reserved.ensures.put fresh;
+      room = omega (arith, c.replace_reserved.ensures.room, i.room);
     }
 
 pub returns : goal.returns

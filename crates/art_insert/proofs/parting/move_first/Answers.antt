@@ -5,7 +5,7 @@ use Rattle.art_tree.specs.Content.{room}
 use Rattle.art_tree.specs.Pairs.{pairs_of}
 use Rattle.art_tree.proofs.CallerLemmas.{length-without_number, Has-first, no_first}
 use Rattle.art_insert.proofs.Placed.Inserting.{alone_no_conflict, alone_absent}
-use Rattle.art_insert.proofs.Moved.Moving.{first_moved, low_content, low_after, after_unrelated, put_back}
+use Rattle.art_insert.proofs.Moved.Moving.{first_moved, after_unrelated, put_back}
 use Rattle.art_insert.proofs.parting.move_first.Goals as goal
 
 pub unreachable-requires : goal.unreachable-requires
@@ -24,7 +24,7 @@ place_reserved-requires g c =
     let moved = pairs_of c.loop.to.pairs in
     let x = c.remove-key.result in
     let step = first_moved (bytes kb) (pairs_of c.args.from.now.pairs) moved ps c.remove-key.new.self.pairs c.in-Some.id x (content_map (λ p. p.1) (bytes kb) c.args.from.now.pairs c.law.ensures.content) c.loop.invariant.whole (sym c.in-Some.ensures) c.remove-key.ensures.value c.remove-key.ensures.rest in
-    let alone = after_unrelated (bytes kb) moved x (low_content (bytes kb) moved (x ∷ rest) step.1) (low_after (bytes kb) moved rest x step.1) in
+    let alone = after_unrelated (bytes kb) moved rest x step.1 in
     let room : 0 < room c.loop.to = omega (arith, c.loop.invariant.room, c.loop-test.true) in
     (lit< tt, (alone_absent (bytes kb) moved (kb x.0) alone, (alone_no_conflict (bytes kb) moved (kb x.0) alone, room)))
 
@@ -36,7 +36,7 @@ loop-preserved g c =
     let moved = pairs_of c.loop.to.pairs in
     let x = c.remove-key.result in
     let step = first_moved (bytes kb) (pairs_of c.args.from.now.pairs) moved ps c.remove-key.new.self.pairs c.in-Some.id x (content_map (λ p. p.1) (bytes kb) c.args.from.now.pairs c.law.ensures.content) c.loop.invariant.whole (sym c.in-Some.ensures) c.remove-key.ensures.value c.remove-key.ensures.rest in
-    let back : pairs_of c.place_reserved.new.tree.pairs ≡ moved ++ x ∷ [] = put_back (bytes kb) moved x (low_content (bytes kb) moved (x ∷ rest) step.1) (low_after (bytes kb) moved rest x step.1) (pairs_of c.place_reserved.new.tree.pairs) c.place_reserved.ensures.put in
+    let back : pairs_of c.place_reserved.new.tree.pairs ≡ moved ++ x ∷ [] = put_back (bytes kb) moved rest x step.1 (pairs_of c.place_reserved.new.tree.pairs) c.place_reserved.ensures.put in
     let one : length (pairs_of c.place_reserved.new.tree.pairs) ≡ length moved + 1 = ap (λ (l : List _). length l) back ∙ length-append moved (x ∷ []) in
     let less : length c.remove-key.new.self.pairs + 1 ≡ length ps = ap (λ (l : List _). length l + 1) c.remove-key.ensures.rest ∙ length-without_number ps c.in-Some.id (Has-first ps c.in-Some.id (sym c.in-Some.ensures)) in
     record {

@@ -9,8 +9,8 @@ returns-in-Some-clause-is_for g c =
     let kb = g.K.AsBytes.bytes in
     let ps = c.args.self.now in
     let q = kb c.args.key in
-    let content = c.lawful_leaf.ensures.content in
-    let distinct = c.lawful_leaf.ensures.distinct in
+    let content = c.leaf_of_disjoint.ensures.content in
+    let distinct = c.leaf_of_disjoint.ensures.distinct in
     let id = c.in-Some.id in
     let good = c.in-Some.ensures.good in
     record {
@@ -26,8 +26,8 @@ returns-clause-is_for g c =
     let kb = g.K.AsBytes.bytes in
     let ps = c.args.self.now in
     let q = kb c.args.key in
-    let content = c.lawful_leaf.ensures.content in
-    let distinct = c.lawful_leaf.ensures.distinct in
+    let content = c.leaf_of_disjoint.ensures.content in
+    let distinct = c.leaf_of_disjoint.ensures.distinct in
     let absent = c.in-None.ensures.absent in
     record {
       same_bytes = refl;

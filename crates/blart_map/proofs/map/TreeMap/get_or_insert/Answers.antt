@@ -10,8 +10,8 @@ unfolding pairs
 returns-in-Some g c =
     let kb = g.K.AsBytes.bytes in
     let ps = c.args.self.now in
-    let content = c.lawful_leaf.ensures.content in
-    let distinct = c.lawful_leaf.ensures.distinct in
+    let content = c.leaf_of_disjoint.ensures.content in
+    let distinct = c.leaf_of_disjoint.ensures.distinct in
     let good = c.in-Some.ensures.good in (
       (refl, (λ w o. exact_set_at kb ps (pairs_of ps) refl content distinct c.args.key c.in-Some.id good w), tt),
       record {
@@ -29,7 +29,7 @@ returns g c =
       record {
         writes_back = tt;
         value = tt;
-        absent = new_has g.K.AsBytes.bytes ps (pairs_of ps) refl c.lawful_leaf.ensures.content c.lawful_leaf.ensures.distinct c.args.key c.in-None.ensures.absent;
+        absent = new_has g.K.AsBytes.bytes ps (pairs_of ps) refl c.leaf_of_disjoint.ensures.content c.leaf_of_disjoint.ensures.distinct c.args.key c.in-None.ensures.absent;
       },
     )
 
@@ -38,8 +38,8 @@ unfolding pairs
 returns-in-Ok g c =
     let kb = g.K.AsBytes.bytes in
     let ps = c.args.self.now in
-    let content = c.lawful_leaf.ensures.content in
-    let distinct = c.lawful_leaf.ensures.distinct in
+    let content = c.leaf_of_disjoint.ensures.content in
+    let distinct = c.leaf_of_disjoint.ensures.distinct in
     let absent = c.in-None.ensures.absent in
     let placed = c.in-Ok.ensures.placed in
     let got = c.value_mut-in-Ok in

@@ -12,7 +12,7 @@ returns g c =
     let S = pairs_of c.args.self.now in
     let x : g.row.K.Denot × g.row.V.Denot = (c.args.key, c.args.value) in
     let y = kept kb S x in
-    let put : Inserts kb S x y c.put_lawful.result (pairs_of c.put_lawful.new.tree.pairs) = rw (← c.self.view_is) c.put_lawful.ensures.put in
+    let put : Inserts kb S x y c.insert_disjoint.result (pairs_of c.insert_disjoint.new.tree.pairs) = rw (← c.self.view_is) c.insert_disjoint.ensures.put in
     let same = kept_bytes kb S x in
     record {
       old = inserts_old kb S x y same _ _ put;
@@ -20,7 +20,7 @@ returns g c =
       len = inserts_len kb S x y same _ _ c.law.ensures.content put;
       fronts = inserts_fronts kb S x y same _ _ put;
       routes = inserts_routes kb S x y same _ _ c.law.ensures.content put;
-      err = rw (← c.self.view_is) c.put_lawful.ensures.err;
+      err = rw (← c.self.view_is) c.insert_disjoint.ensures.err;
       absent = inserts_absent kb S x y same _ _ put;
       put = put;
     }

@@ -10,7 +10,7 @@ returns-clause-updates g c =
     let kb = g.K.AsBytes.bytes in
     let S = pairs c.args.self.now.tree.pairs in
     let x : g.row.K.Denot × g.row.V.Denot = (c.args.key, c.args.value) in
-    inserts_updates kb {E = Unit {0}} S x (kept kb S x) (kept_bytes kb S x) (pairs c.put_lawful_within-old.new.tree.pairs) (Ok c.put_lawful_within-old.result) c.law.ensures (c.put_lawful_within-old.ensures.put, c.put_lawful_within-old.ensures.old)
+    inserts_updates kb {E = Unit {0}} S x (kept kb S x) (kept_bytes kb S x) (pairs c.insert_disjoint_reserved-old.new.tree.pairs) (Ok c.insert_disjoint_reserved-old.result) c.law.ensures (c.insert_disjoint_reserved-old.ensures.put, c.insert_disjoint_reserved-old.ensures.old)
 
 pub returns-clause-len : goal.returns-clause-len
 unfolding pair_at pairs
@@ -18,7 +18,7 @@ returns-clause-len g c =
     let kb = g.K.AsBytes.bytes in
     let S = pairs c.args.self.now.tree.pairs in
     let x : g.row.K.Denot × g.row.V.Denot = (c.args.key, c.args.value) in
-    inserts_len kb {E = Unit {0}} S x (kept kb S x) (kept_bytes kb S x) (pairs c.put_lawful_within-old.new.tree.pairs) (Ok c.put_lawful_within-old.result) c.law.ensures (c.put_lawful_within-old.ensures.put, c.put_lawful_within-old.ensures.old)
+    inserts_len kb {E = Unit {0}} S x (kept kb S x) (kept_bytes kb S x) (pairs c.insert_disjoint_reserved-old.new.tree.pairs) (Ok c.insert_disjoint_reserved-old.result) c.law.ensures (c.insert_disjoint_reserved-old.ensures.put, c.insert_disjoint_reserved-old.ensures.old)
 
 pub returns-clause-routes : goal.returns-clause-routes
 unfolding pair_at pairs
@@ -26,4 +26,4 @@ returns-clause-routes g c =
     let kb = g.K.AsBytes.bytes in
     let S = pairs c.args.self.now.tree.pairs in
     let x : g.row.K.Denot × g.row.V.Denot = (c.args.key, c.args.value) in
-    inserts_routes kb {E = Unit {0}} S x (kept kb S x) (kept_bytes kb S x) (pairs c.put_lawful_within-old.new.tree.pairs) (Ok c.put_lawful_within-old.result) c.law.ensures (c.put_lawful_within-old.ensures.put, c.put_lawful_within-old.ensures.old)
+    inserts_routes kb {E = Unit {0}} S x (kept kb S x) (kept_bytes kb S x) (pairs c.insert_disjoint_reserved-old.new.tree.pairs) (Ok c.insert_disjoint_reserved-old.result) c.law.ensures (c.insert_disjoint_reserved-old.ensures.put, c.insert_disjoint_reserved-old.ensures.old)

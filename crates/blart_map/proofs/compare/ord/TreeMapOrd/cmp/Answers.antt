@@ -1,4 +1,4 @@
 use Rattle.blart_map.proofs.compare.ord.TreeMapOrd.cmp.Goals as goal
 
 pub returns : goal.returns
-returns g c = rw (← c.iter.ensures.value, ← c.iter-2.ensures.value) c.order.ensures
+returns g c = rw (← c.iter.ensures.value, ← c.iter-2.ensures.value) c.cmp.ensures
