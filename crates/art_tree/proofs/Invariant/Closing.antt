@@ -16,7 +16,8 @@ use Rattle.art_kinds.specs.declared.records.ids.Edge.{Edge}
 use Rattle.art_tree.specs.declared.tree.build.LooseEdge.{LooseEdge}
 use Rattle.art_tree.specs.Calls.Building.{last_depth, start_after, loose_front, RiseAbove, Rise, edges_of, MakesNode, KeepsAfter, StandsFor, AreMade, IsLoose, IsPart, IsTurn}
 use Rattle.art_tree.proofs.BeginsLemmas.{Begins-take, Begins-trans, Begins-linear, Begins-length, Begins-next, Begins-edge_front, Begins-itself}
-use Rattle.art_tree.proofs.Invariant.Prefixes.{cut_front}
+use Rattle.art_tree.proofs.Invariant.Growing.{key_below}
+use Rattle.art_tree.proofs.Invariant.Prefixes.{apart_more, cut_front}
 
 -- fewer bytes of a key are a prefix of more of them
 pub take_less : (k : Bytes) (m n : ℕ) → m ≤ n → n ≤ length k → Begins (take m k) (take n k)
@@ -141,14 +142,6 @@ group_above d b own (f ∷ g) same less lt r =
 pub group_ascends : (d : ℕ) (own : Edge) (g : List LooseEdge) → ((f : LooseEdge) → Member f g → f.depth ≡ d) → ((f : LooseEdge) → Member f g → f.edge.byte < own.byte) → Rise g → Ascends (edges_of g ++ own ∷ [])
 group_ascends d own [] same less r = tt
 group_ascends d own (f ∷ g) same less r = group_above f.depth f.edge.byte own g (λ h m. same h (inr m) ∙ sym (same f (inl refl))) (λ h m. less h (inr m)) (less f (inl refl)) r
-
--- each child covers some key
-some_key_below : {P : ℕ} → (keys : ℕ → Option Bytes) (nodes : ℕ → Option Node) (front_of : ℕ → Bytes) → AreMade P keys nodes front_of → (g : Bytes) (c : Child) → Covers keys nodes front_of g c → (j : ℕ) × (l : Bytes) × (keys j ≡ Some l) × Begins g l
-some_key_below keys nodes front_of made g (Leaf j) c = (j, c.key, c.is, c.front)
-some_key_below keys nodes front_of made g (Inner m) c =
-    let x = some_of (nodes m) c.live in
-    let r = (made.node m x.0 x.1).parts in
-    (r.i, r.k, r.k_is, Begins-trans g (front_of m) r.k c.front r.k_front)
 
 module _ {P : ℕ} (keys : ℕ → Option Bytes) (nodes nodes' : ℕ → Option Node) (k : Bytes) (es g : List LooseEdge) (d start least leaf n : ℕ) (prefix : List ℕ) (c : Child) (p : IsPart P keys nodes k (es ++ g) (d + 1) c) (t : IsTurn keys leaf k least)
     (own : Edge) (own_byte : own.byte ≡ get_or k d 0) (own_to : own.to ≡ c) (made : MakesNode nodes nodes' n d prefix (edges_of g ++ own ∷ [])) (prefix_is : prefix ≡ take P (slice_range k start d)) (some : 0 < length g) (same : (e : LooseEdge) → Member e g → e.depth ≡ d) (upper : (e : LooseEdge) → Member e es → e.depth < start) (over : least ≤ start) (start_le : start ≤ d) where
@@ -304,7 +297,7 @@ module _ {P : ℕ} (keys : ℕ → Option Bytes) (nodes nodes' : ℕ → Option 
   parts_here =
       let e = first_of g some in
       let h = in_g e.0 e.1 in
-      let l = some_key_below keys nodes p.front_of p.made (loose_front k e.0) e.0.edge.to h.stands.covers in
+      let l = key_below keys nodes p.front_of p.made.node (loose_front k e.0) e.0.edge.to h.stands.covers in
       let b = beyond l.1 e.0 e.1 l.3 in
       let own_next : next_byte (take d k) k ≡ get_or k d 0 = ap (λ (z : ℕ). get_or k z 0) length_front in
       let its_next : next_byte (take d k) l.1 ≡ e.0.edge.byte = next_here l.1 e.0.edge.byte b in
@@ -373,16 +366,7 @@ module _ {P : ℕ} (keys : ℕ → Option Bytes) (nodes nodes' : ℕ → Option 
           subst (λ (y : ℕ). KeepsAfter P nodes' front (front y ++ b ∷ []) z) (sym q.0) (subst (λ (y : Bytes). KeepsAfter P nodes' front (y ++ b ∷ []) z) (sym front_new) (keeps_kept (take d k ++ b ∷ []) (take d k ++ b ∷ []) z s.covers s.keeps))
       | inr q ↦ subst (λ (y : Bytes). KeepsAfter P nodes' front (y ++ b ∷ []) z) (sym (front_old j q.0)) (keeps_kept (p.front_of j ++ b ∷ []) (p.front_of j ++ b ∷ []) z ((p.made.node j x q.1).below b z h) (p.made.keeps j b x z q.1 h))
     ];
-    apart = λ a b live live2 e. elim (live_cases a live) [
-      | inl q ↦ elim (live_cases b live2) [
-        | inl r ↦ q ∙ sym r
-        | inr r ↦ absurd (front_apart b r.1 (sym (front_old b r.0) ∙ sym e ∙ ap front q ∙ front_new))
-      ]
-      | inr q ↦ elim (live_cases b live2) [
-        | inl r ↦ absurd (front_apart a q.1 (sym (front_old a q.0) ∙ e ∙ ap front r ∙ front_new))
-        | inr r ↦ p.made.apart a b q.1 r.1 (sym (front_old a q.0) ∙ e ∙ front_old b r.0)
-      ]
-    ];
+    apart = apart_more nodes nodes' p.front_of front n p.made.apart (λ m off live. elim (live_cases m live) [ inl q ↦ absurd (off q) | inr q ↦ q.1 ]) front_old (λ m live e. front_apart m live (e ∙ front_new));
   }
 
   -- a list that begins with d + 1 bytes of k begins with `start` of them

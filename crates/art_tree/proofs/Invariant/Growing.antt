@@ -302,6 +302,14 @@ module _ {P : ℕ} (keys keys' : ℕ → Option Bytes) (nodes nodes' : ℕ → O
     keeps = keeps_changed nodes nodes' root n adds.was adds.is adds.was_is adds.is_is adds.others adds.prefix old_edge P s.front_of s.keeps;
   }
 
+-- each child covers some key, if the nodes fit
+pub key_below : (keys : ℕ → Option Bytes) (nodes : ℕ → Option Node) (front_of : ℕ → Bytes) → ((n : ℕ) (x : Node) → nodes n ≡ Some x → NodeFits keys nodes front_of (front_of n) x) → (g : Bytes) (c : Child) → Covers keys nodes front_of g c → (j : ℕ) × (l : Bytes) × (keys j ≡ Some l) × Begins g l
+key_below keys nodes front_of fits g (Leaf j) c = (j, c.key, c.is, c.front)
+key_below keys nodes front_of fits g (Inner m) c =
+    let x = some_of (nodes m) c.live in
+    let r = (fits m x.0 x.1).parts in
+    (r.i, r.k, r.k_is, Begins-trans g (front_of m) r.k c.front r.k_front)
+
 module _ {P : ℕ} (keys : ℕ → Option Bytes) (nodes : ℕ → Option Node) (root : Option Child) (s : Shape P keys nodes root) where
   -- the child of an edge covers the edge's front
   pub covers_above : (above : Option (ℕ × ℕ)) (c : Child) → LeadsTo nodes root above c → Covers keys nodes s.front_of (edge_front s.front_of above) c
@@ -310,11 +318,7 @@ module _ {P : ℕ} (keys : ℕ → Option Bytes) (nodes : ℕ → Option Node) (
 
   -- each child covers some key
   pub some_key : (g : Bytes) (c : Child) → Covers keys nodes s.front_of g c → (j : ℕ) × (l : Bytes) × (keys j ≡ Some l) × Begins g l
-  some_key g (Leaf j) c = (j, c.key, c.is, c.front)
-  some_key g (Inner m) c =
-      let x = some_of (nodes m) c.live in
-      let r = (s.node m x.0 x.1).parts in
-      (r.i, r.k, r.k_is, Begins-trans g (s.front_of m) r.k c.front r.k_front)
+  some_key g c covers = key_below keys nodes s.front_of s.node g c covers
 
   empty_edge : (n : ℕ) (x : Node) (k : Bytes) → nodes n ≡ Some x → Departs keys (s.front_of n) k → (o : Option Child) → child_at x.edges (next_byte (s.front_of n) k) ≡ o → o ≡ None
   empty_edge n x k is d None e = refl

@@ -23,6 +23,21 @@ module _ (old new : ℕ → Option Node) (n : ℕ) (was is : Node) (was_is : old
   pub live_before : (m : ℕ) → IsSome (new m) → IsSome (old m)
   live_before m h = elim (eqb_tells m n) [ inl e ↦ is_some (old m) was (ap old e.1 ∙ was_is) | inr e ↦ same_some (new m) (old m) (others m e.1) h ]
 
+-- the fronts still differ if there is one node more, with a front that no other has
+pub apart_more : (old new : ℕ → Option Node) (f f' : ℕ → Bytes) (n : ℕ) → ((a b : ℕ) → IsSome (old a) → IsSome (old b) → f a ≡ f b → a ≡ b) → ((m : ℕ) → m ≢ n → IsSome (new m) → IsSome (old m)) → ((m : ℕ) → m ≢ n → f' m ≡ f m) → ((m : ℕ) → IsSome (old m) → f m ≡ f' n → ⊥)
+    → (a b : ℕ) → IsSome (new a) → IsSome (new b) → f' a ≡ f' b → a ≡ b
+apart_more old new f f' n apart was same alone a b la lb e =
+    elim (eqb_tells a n) [
+      | inl p ↦ elim (eqb_tells b n) [
+        | inl q ↦ p.1 ∙ sym q.1
+        | inr q ↦ absurd (alone b (was b q.1 lb) (sym (same b q.1) ∙ sym e ∙ ap f' p.1))
+      ]
+      | inr p ↦ elim (eqb_tells b n) [
+        | inl q ↦ absurd (alone a (was a p.1 la) (sym (same a p.1) ∙ e ∙ ap f' q.1))
+        | inr q ↦ apart a b (was a p.1 la) (was b q.1 lb) (sym (same a p.1) ∙ e ∙ same b q.1)
+      ]
+    ]
+
 -- a prefix remains right if the edge and the node have the same fronts
 pub keeps_as : (P : ℕ) (f f' : ℕ → Bytes) (a a' : Option (ℕ × ℕ)) (n n' : ℕ) (x x' : Node) → x.prefix ≡ kept_prefix P f a n → x'.prefix ≡ x.prefix → edge_front f' a' ≡ edge_front f a → f' n' ≡ f n → x'.prefix ≡ kept_prefix P f' a' n'
 keeps_as P f f' a a' n n' x x' kept e edge front =

@@ -17,7 +17,7 @@ use Rattle.art_tree.proofs.BeginsLemmas.{Begins-length, Begins-more, Begins-tran
 use Rattle.blart_keys.proofs.Options.{is_some, some_of, not_some}
 use Rattle.art_tree.proofs.Invariant.EdgesAbove.{Turns, turned_node, turned_off, turned_free, turns_after, leads_made, leads_live, Hangs, above_cases, came_from, turned_fits}
 use Rattle.art_tree.proofs.Invariant.OneEdge.{one_above}
-use Rattle.art_tree.proofs.Invariant.Prefixes.{keeps_as, cut_node, cut_was, cut_free, cut_leads, turned_prefix, Recut, recut_by}
+use Rattle.art_tree.proofs.Invariant.Prefixes.{apart_more, keeps_as, cut_node, cut_was, cut_free, cut_leads, turned_prefix, Recut, recut_by}
 use Rattle.art_tree.proofs.Invariant.Growing.{covers_above, Departs, Gains, kept, kept_cases, within, Parts-kept, new_leaf, key_on, joined_on, top_from}
 use Rattle.art_tree.proofs.Invariant.Subtrees.{above_leaf, above_node}
 
@@ -364,12 +364,6 @@ module _ {P : ℕ} (keys keys' : ℕ → Option Bytes) (nodes cut mid : ℕ → 
               rw a.3 (top_from keys keys' nodes new root s fronts_after d.nearest d.nearest_key d.nearest_is (λ c z h. edge_kept [] c (λ b far. not_past_above a.0.0 a.2 (Begins-edge_front (s.front_of a.0.0) t a.0.1 (rw (← e) g0_t)) [] c h tt far) h))
         ]
 
-    apart_new : (m : ℕ) → m ≢ n → IsSome (new m) → fronts_after m ≡ t → ⊥
-    apart_new m off live e =
-        let x = some_of (new m) live in
-        let w = back m off x.0 x.1 in
-        not_front m (is_some (nodes m) w.0 w.1) (sym (after-old m off) ∙ e)
-
     -- an old edge to a node other than the child: the node keeps its prefix
     kept_old : (a : Option (ℕ × ℕ)) (j : ℕ) (x' : Node) → LeadsTo nodes root a (Inner j) → (edge_front s.front_of a ≡ g0 → ⊥) → edge_front fronts_after a ≡ edge_front s.front_of a → new j ≡ Some x' → x'.prefix ≡ kept_prefix P fronts_after a j
     kept_old a j x' l far e is =
@@ -429,23 +423,6 @@ module _ {P : ℕ} (keys keys' : ℕ → Option Bytes) (nodes cut mid : ℕ → 
       top = top_fits;
       node = node_fits;
       joined = joined_on keys keys' i k gains t d new fronts_after n live_new after-new old_joined;
-      apart = λ a b la lb e.
-          elim (eqb_tells a n) [
-            | inl p ↦
-                elim (eqb_tells b n) [
-                  | inl q ↦ p.1 ∙ sym q.1
-                  | inr q ↦ absurd (apart_new b q.1 lb (sym e ∙ ap fronts_after p.1 ∙ after-new))
-                ]
-            | inr p ↦
-                elim (eqb_tells b n) [
-                  | inl q ↦ absurd (apart_new a p.1 la (e ∙ ap fronts_after q.1 ∙ after-new))
-                  | inr q ↦
-                      let x = some_of (new a) la in
-                      let w = back a p.1 x.0 x.1 in
-                      let y = some_of (new b) lb in
-                      let v = back b q.1 y.0 y.1 in
-                      s.apart a b (is_some (nodes a) w.0 w.1) (is_some (nodes b) v.0 v.1) (sym (after-old a p.1) ∙ e ∙ after-old b q.1)
-                ]
-          ];
+      apart = apart_more nodes new s.front_of fronts_after n s.apart (λ m off live. let x = some_of (new m) live in let w = back m off x.0 x.1 in is_some (nodes m) w.0 w.1) after-old (λ m live e. not_front m live (e ∙ after-new));
       keeps = kept_split;
     }

@@ -1,9 +1,11 @@
--- The child beside the place at which a query leaves the stored keys.
-use Rattle.std.proofs.Common.{Bool, false, ◌≡◌, ◌≢◌, ℕ, ◌≤◌, true, [], ◌∷◌, ◌++◌, sym, Option, Some, None, arith}
+-- The child beside the place at which a query parts from the stored keys.
+use Rattle.std.proofs.Common.{Bool, not, false, ◌≡◌, ◌≢◌, ℕ, ◌≤◌, true, [], ◌∷◌, ◌++◌, sym, Option, Some, None, arith}
 use Rattle.std.specs.Prelude.{ltb}
 use Rattle.std.proofs.lemmas.Bool.{ltb-true, ltb-false}
 use Rattle.art_tree.specs.Begins.{Bytes}
-use Rattle.art_tree.specs.Calls.Stops.{LeavesAtNode, LeavesAtEdge, IsChildBeside, IsNextTo}
+use Rattle.art_tree.specs.Calls.Stops.{LeavesAtNode, LeavesAtEdge, IsChildBeside, IsNextTo, beside_leaf}
+use Rattle.art_tree.specs.Calls.Descents.{IsEndUnder}
+use Rattle.art_tree.specs.Places.{IsBeside}
 use Rattle.art_kinds.specs.Edges.{child_at, IsPrevious, IsNext}
 use Rattle.art_kinds.specs.Nodes.{Node}
 use Rattle.art_kinds.specs.declared.records.ids.Child.{Child}
@@ -23,23 +25,23 @@ module _ {P : ℕ} (keys : ℕ → Option Bytes) (nodes : ℕ → Option Node) w
         let k = some_key keys nodes l.apart.root l.apart.shape (l.apart.shape.front_of n ++ b ∷ []) c.0 ((l.apart.shape.node n x is).below b c.0 c.1) in
         l.none k.0 k.1 k.2 k.3)
 
+    pub edge_there : (is_after : Bool) (e : Edge) → IsNextTo is_after x.edges b e → child_at x.edges e.byte ≡ Some e.to
+    edge_there true e next = next.1
+    edge_there false e next = next.1
+
+    pub end_beside : (is_after : Bool) (e : Edge) → IsNextTo is_after x.edges b e → (i : ℕ) → IsEndUnder keys (not is_after) (l.apart.shape.front_of n ++ e.byte ∷ []) i → IsBeside keys q (beside_leaf is_after i)
+    end_beside true e next i u = last_at_node keys nodes l.apart.root l.apart.shape q l.apart.alone n x is b l.goes_on e next no_edge_there i u.key u.is u.front (last_greater u)
+    end_beside false e next i u = first_at_node keys nodes l.apart.root l.apart.shape q l.apart.alone n x is b l.goes_on e next no_edge_there i u.key u.is u.front (first_less u)
+
     -- the child of the edge next to q's byte is beside q's place
     abbrev pub beside_at_node : (is_after : Bool) (e : Edge) → IsNextTo is_after x.edges b e → IsChildBeside P keys nodes q e.to is_after
-    beside_at_node true e next = record {
+    beside_at_node is_after e next = record {
       root = l.apart.root;
       shape = l.apart.shape;
       front = l.apart.shape.front_of n ++ e.byte ∷ [];
-      covers = (l.apart.shape.node n x is).below e.byte e.to next.1;
+      covers = (l.apart.shape.node n x is).below e.byte e.to (edge_there is_after e next);
       alone = l.apart.alone;
-      beside = λ i u. last_at_node keys nodes l.apart.root l.apart.shape q l.apart.alone n x is b l.goes_on e next no_edge_there i u.key u.is u.front (last_greater u);
-    }
-    beside_at_node false e next = record {
-      root = l.apart.root;
-      shape = l.apart.shape;
-      front = l.apart.shape.front_of n ++ e.byte ∷ [];
-      covers = (l.apart.shape.node n x is).below e.byte e.to next.1;
-      alone = l.apart.alone;
-      beside = λ i u. first_at_node keys nodes l.apart.root l.apart.shape q l.apart.alone n x is b l.goes_on e next no_edge_there i u.key u.is u.front (first_less u);
+      beside = end_beside is_after e next;
     }
 
     -- there is such an edge
@@ -47,24 +49,13 @@ module _ {P : ℕ} (keys : ℕ → Option Bytes) (nodes : ℕ → Option Node) w
     no_edge_beside prev next = no_lone_edge keys nodes l.apart.root l.apart.shape n b x is next prev
 
   module _ (c : Child) (a b : ℕ) (q : Bytes) (l : LeavesAtEdge P keys nodes c a b q) where
+    pub end_along : (is_after : Bool) → is_after ≡ ltb a b → (i : ℕ) → IsEndUnder keys (not is_after) l.front i → IsBeside keys q (beside_leaf is_after i)
+    end_along true e i u = last_beside keys q l.apart.alone l.t b a l.goes_on l.front l.within l.all i u.key u.is u.front (ltb-true a b (sym e)) (last_greater u)
+    end_along false e i u =
+        let apart : a ≢ b = l.other in
+        let le : b ≤ a = ltb-false a b (sym e) in
+        first_beside keys q l.apart.alone l.t b a l.goes_on l.front l.within l.all i u.key u.is u.front (omega arith) (first_less u)
+
     -- the child of an edge along which the keys continue with another byte is beside q's place
     abbrev pub beside_at_edge : (is_after : Bool) → is_after ≡ ltb a b → IsChildBeside P keys nodes q c is_after
-    beside_at_edge true e = record {
-      root = l.apart.root;
-      shape = l.apart.shape;
-      front = l.front;
-      covers = l.covers;
-      alone = l.apart.alone;
-      beside = λ i u. last_beside keys q l.apart.alone l.t b a l.goes_on l.front l.within l.all i u.key u.is u.front (ltb-true a b (sym e)) (last_greater u);
-    }
-    beside_at_edge false e = record {
-      root = l.apart.root;
-      shape = l.apart.shape;
-      front = l.front;
-      covers = l.covers;
-      alone = l.apart.alone;
-      beside = λ i u.
-          let apart : a ≢ b = l.other in
-          let le : b ≤ a = ltb-false a b (sym e) in
-          first_beside keys q l.apart.alone l.t b a l.goes_on l.front l.within l.all i u.key u.is u.front (omega arith) (first_less u);
-    }
+    beside_at_edge is_after e = record { root = l.apart.root; shape = l.apart.shape; front = l.front; covers = l.covers; alone = l.apart.alone; beside = end_along is_after e }

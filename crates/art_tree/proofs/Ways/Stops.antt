@@ -149,12 +149,17 @@ module _ {P : ℕ} (keys : ℕ → Option Bytes) (nodes : ℕ → Option Node) (
 
 -- ---- the bytes that a descent has passed
 
--- they are bytes of the query
-pub way_within : {P : ℕ} {keys : ℕ → Option Bytes} {nodes : ℕ → Option Node} {c : Child} {start : ℕ} {q : Bytes} → OnWay P keys nodes c start q → start ≤ length q
-way_within {start = start} {q = q} w =
-    let e : start ≡ length (edge_front w.shape.front_of w.above) = w.start_is in
-    let l : length (edge_front w.shape.front_of w.above) ≤ length q = Begins-length (edge_front w.shape.front_of w.above) q w.along in
-    omega arith
+module _ {P : ℕ} {keys : ℕ → Option Bytes} {nodes : ℕ → Option Node} {c : Child} {start : ℕ} {q : Bytes} (w : OnWay P keys nodes c start q) where
+  -- they are bytes of each list below the edge, and of the query
+  pub way_in : (z : Bytes) → Begins (edge_front w.shape.front_of w.above) z → start ≤ length z
+  way_in z b = subst (λ (n : ℕ). n ≤ length z) (sym w.start_is) (Begins-length (edge_front w.shape.front_of w.above) z b)
+
+  pub way_within : start ≤ length q
+  way_within = way_in q w.along
+
+  -- the common prefix of such a list and the query has these bytes, and the common bytes after them
+  pub way_common : (z : Bytes) → Begins (edge_front w.shape.front_of w.above) z → length (common z q) ≡ start + length (common (drop start z) (drop start q))
+  way_common z b = subst (λ (n : ℕ). length (common z q) ≡ n + length (common (drop n z) (drop n q))) (sym w.start_is) (common_from (edge_front w.shape.front_of w.above) z q b w.along)
 
 -- ---- at a node
 
@@ -285,8 +290,8 @@ module _ {P : ℕ} {keys : ℕ → Option Bytes} {nodes : ℕ → Option Node} {
   leaf_at {i} w = covers_above keys nodes w.root w.shape w.above (Leaf i) w.leads
 
   module _ {i start : ℕ} (w : OnWay P keys nodes (Leaf i) start q) {key : Bytes} (is : keys i ≡ Some key) where
-    leaf_covers : CoversLeaf keys (edge_front w.shape.front_of w.above) i
-    leaf_covers = covers_above keys nodes w.root w.shape w.above (Leaf i) w.leads
+    abbrev leaf_covers : CoversLeaf keys (edge_front w.shape.front_of w.above) i
+    leaf_covers = leaf_at w
 
     own : leaf_covers.key ≡ key
     own = let e : keys i ≡ Some leaf_covers.key = leaf_covers.is in cc
@@ -302,16 +307,10 @@ module _ {P : ℕ} {keys : ℕ → Option Bytes} {nodes : ℕ → Option Node} {
         subst (λ (z : Bytes). Begins key z) same (Begins-itself key)
 
     pub start_in_key : start ≤ length key
-    start_in_key =
-        let e : start ≡ length (edge_front w.shape.front_of w.above) = w.start_is in
-        let l : length (edge_front w.shape.front_of w.above) ≤ length key = Begins-length (edge_front w.shape.front_of w.above) key leaf_front in
-        omega arith
+    start_in_key = way_in w key leaf_front
 
-    -- the common prefix has the bytes before `start`, and the common bytes from `start` on
     pub leaf_common : length (common key q) ≡ start + length (common (drop start key) (drop start q))
-    leaf_common =
-        let e : start ≡ length (edge_front w.shape.front_of w.above) = w.start_is in
-        subst (λ (z : ℕ). length (common key q) ≡ z + length (common (drop z key) (drop z q))) (sym e) (common_from (edge_front w.shape.front_of w.above) key q leaf_front w.along)
+    leaf_common = way_common w key leaf_front
 
     module _ {n : ℕ} (n_is : n ≡ length (common (drop start key) (drop start q))) where
       -- with the bytes before the start, the count is the length of the common prefix
@@ -354,17 +353,11 @@ module _ {P : ℕ} {keys : ℕ → Option Bytes} {nodes : ℕ → Option Node} {
     abbrev own_front : Bytes
     own_front = w.shape.front_of n
 
-    -- the common prefix has the bytes before `start`, and the common bytes from `start` on
     pub shared_after : length (common own_front q) ≡ start + length (common (drop start own_front) (drop start q))
-    shared_after =
-        let e : start ≡ length (edge_front w.shape.front_of w.above) = w.start_is in
-        subst (λ (z : ℕ). length (common own_front q) ≡ z + length (common (drop z own_front) (drop z q))) (sym e) (common_from (edge_front w.shape.front_of w.above) own_front q (node_covers w).front w.along)
+    shared_after = way_common w own_front (node_covers w).front
 
     pub start_within : start ≤ length own_front
-    start_within =
-        let e : start ≡ length (edge_front w.shape.front_of w.above) = w.start_is in
-        let l : length (edge_front w.shape.front_of w.above) ≤ length own_front = Begins-length (edge_front w.shape.front_of w.above) own_front (node_covers w).front in
-        omega arith
+    start_within = way_in w own_front (node_covers w).front
 
     -- the common prefix, from the front's own bytes
     pub shared_from : {len byte : ℕ} → len ≡ start + length (common (drop start own_front) (drop start q)) → (len < length own_front → byte ≡ get_or own_front len 0) → IsShared own_front q len byte
@@ -428,12 +421,8 @@ module _ {P : ℕ} {keys : ℕ → Option Bytes} {nodes : ℕ → Option Node} {
 
   pub place_at_node : {n depth : ℕ} {x : Node} → nodes n ≡ Some x → (l : LeavesAtNode P keys nodes n (get_or q depth 0) q) → depth ≡ length (l.apart.shape.front_of n) → depth < length q → (is_after : Bool) (e : Edge) → IsNextTo is_after x.edges (get_or q depth 0) e
       → IsPlaceUnder P keys nodes q depth e.to is_after
-  place_at_node {n} {depth} {x} is l d lq true e next = record {
-    beside = beside_at_node keys nodes n (get_or q depth 0) q l x is true e next;
-    leaves = λ i key key_is h. leaves_nearest keys q (l.apart.shape.front_of n) key (get_or q depth 0) e.byte depth d lq refl l.goes_on h i key_is l.none;
-  }
-  place_at_node {n} {depth} {x} is l d lq false e next = record {
-    beside = beside_at_node keys nodes n (get_or q depth 0) q l x is false e next;
+  place_at_node {n} {depth} {x} is l d lq is_after e next = record {
+    beside = beside_at_node keys nodes n (get_or q depth 0) q l x is is_after e next;
     leaves = λ i key key_is h. leaves_nearest keys q (l.apart.shape.front_of n) key (get_or q depth 0) e.byte depth d lq refl l.goes_on h i key_is l.none;
   }
 
@@ -450,5 +439,4 @@ module _ {P : ℕ} {keys : ℕ → Option Bytes} {nodes : ℕ → Option Node} {
     edge_leaves i key key_is h = leaves_nearest keys q l.t key (get_or q depth 0) a depth d lq refl l.goes_on (l.all i key key_is h) i key_is edge_alone
 
     pub place_at_edge : (is_after : Bool) → is_after ≡ ltb a (get_or q depth 0) → IsPlaceUnder P keys nodes q depth c is_after
-    place_at_edge true e = record { beside = beside_at_edge keys nodes c a (get_or q depth 0) q l true e; leaves = edge_leaves }
-    place_at_edge false e = record { beside = beside_at_edge keys nodes c a (get_or q depth 0) q l false e; leaves = edge_leaves }
+    place_at_edge is_after e = record { beside = beside_at_edge keys nodes c a (get_or q depth 0) q l is_after e; leaves = edge_leaves }
