@@ -105,9 +105,9 @@ drop_prepended g f l b gf fl =
     ap (λ (t : Bytes). drop (length g) t) whole ∙ drop-append-le (length g) f (b ∷ drop (length (f ++ b ∷ [])) l) (Begins-length g f gf)
 
 -- with the prefixes joined, a child keeps the bytes that its front has after the edge above
-pub join_is : {P : ℕ} → (keys : ℕ → Option Bytes) (nodes : ℕ → Option Node) (above : Option (ℕ × ℕ)) (n m b : ℕ) (h : IsChildBelow P keys nodes above n (record { byte = b; to = Inner m })) (y : Node) → nodes m ≡ Some y
+pub prepended_is : {P : ℕ} → (keys : ℕ → Option Bytes) (nodes : ℕ → Option Node) (above : Option (ℕ × ℕ)) (n m b : ℕ) (h : IsChildBelow P keys nodes above n (record { byte = b; to = Inner m })) (y : Node) → nodes m ≡ Some y
     → take P (h.node.prefix ++ b ∷ y.prefix) ≡ take P (drop (length (edge_front h.shape.front_of above)) (h.shape.front_of m))
-join_is {P} keys nodes above n m b h y is =
+prepended_is {P} keys nodes above n m b h y is =
     let f = h.shape.front_of in
     let g : Bytes = edge_front f above in
     let up : h.node.prefix ≡ take P (drop (length g) (f n)) = h.shape.keeps above n h.node h.leads h.is in

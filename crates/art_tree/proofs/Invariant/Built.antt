@@ -109,6 +109,13 @@ module _ (P : ℕ) (keys : ℕ → Option Bytes) (nodes : ℕ → Option Node) (
   pub leaf_stands : (i : ℕ) (k : Bytes) → keys i ≡ Some k → StandsFor P keys nodes front_of (take (length k) k) (Leaf i)
   leaf_stands i k is = subst (λ (g : Bytes). StandsFor P keys nodes front_of g (Leaf i)) (sym (take_front k k (Begins-itself k))) (leaf_whole i k is)
 
+-- a part up to the key of a leaf, by the key that was read
+pub part_at : {P : ℕ} → (keys : ℕ → Option Bytes) (nodes : ℕ → Option Node) (es : List LooseEdge) (leaf : ℕ) (key : Bytes) → (k : Bytes) × (keys leaf ≡ Some k) × IsPart P keys nodes k es (length k) (Leaf leaf) → keys leaf ≡ Some key → IsPart P keys nodes key es (length key) (Leaf leaf)
+part_at {P} keys nodes es leaf key p is =
+    let a : keys leaf ≡ Some p.0 = p.1 in
+    let same : p.0 ≡ key = cc in
+    subst (λ (z : Bytes). IsPart P keys nodes z es (length z) (Leaf leaf)) same p.2
+
 -- a key begins with all its bytes
 whole_key : (i j : ℕ) (keys : ℕ → Option Bytes) (k l : Bytes) → keys i ≡ Some k → keys j ≡ Some l → j ≡ i → Begins (take (length k) k) l
 whole_key i j keys k l is e s =
@@ -136,7 +143,7 @@ module _ {P : ℕ} (keys : ℕ → Option Bytes) (nodes : ℕ → Option Node) (
   }
 
   module _ (es : List LooseEdge) (c : ℕ) (child : Child) (part : IsPart P keys nodes k es (c + 1) child) (q : Bytes) (i : ℕ) (is : keys i ≡ Some q) (c_is : c ≡ length (common k q)) (in_k : c < length k) (in_q : c < length q) (rises : get_or k c 0 < get_or q c 0) where
-    -- the edge at which the next key leaves the last one
+    -- the edge at which the next key parts from the last one
     abbrev left : LooseEdge
     left = record { depth = c; edge = record { byte = get_or k c 0; to = child } }
 

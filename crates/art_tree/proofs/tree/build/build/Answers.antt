@@ -1,5 +1,4 @@
 use Rattle.std.proofs.Common.{◌≡◌, ◌+◌, ◌<◌, List, length, Some, None, ap, sym, subst, ◌∙◌, length-append, lit<, arith, rules}
-use Rattle.art_tree.specs.Begins.{Bytes}
 use Rattle.art_tree.specs.Leaves.{keys_in, number_after, first_number}
 use Rattle.art_kinds.specs.Nodes.{at}
 use Rattle.art_kinds.specs.declared.records.ids.Child.TheVariants.{Leaf}
@@ -7,7 +6,7 @@ use Rattle.art_tree.specs.declared.tree.build.LooseEdge.{LooseEdge}
 use Rattle.art_tree.specs.Calls.Building.{IsPart, IsTurn, count_after}
 use Rattle.art_tree.proofs.NumberedPairs.Keys.{key_read}
 use Rattle.art_tree.proofs.NumberedPairs.Turns.{none_begins, turn_last, turn_next, after_has, later, in_key, in_next, rises, first_least, counts_first, counts_down}
-use Rattle.art_tree.proofs.Invariant.Built.{part_first, part_next, shape_closed}
+use Rattle.art_tree.proofs.Invariant.Built.{part_first, part_at, part_next, shape_closed}
 use Rattle.art_tree.proofs.Invariant.Soundness.{sound_empty}
 use Rattle.art_tree.proofs.tree.build.build.Goals as goal
 use Rattle.art_rows.proofs.CallerLemmas.{no_first}
@@ -36,12 +35,10 @@ close-requires g c =
     let kb = g.K.AsBytes.bytes in
     let S = c.args.leaves.now.pairs in
     let key = c.as_bytes-key.result.now in
-    let is : keys_in kb S c.over.last ≡ Some key = key_read kb S c.over.last c.read.ensures.value c.as_bytes-key.ensures in
-    let i = c.over.invariant in
-    let same : i.part.0 ≡ key = (let a : keys_in kb S c.over.last ≡ Some i.part.0 = i.part.1 in cc) in
-    let part : IsPart g.row.P (keys_in kb S) (at c.over.nodes) key c.over.loose.items (length key) (Leaf c.over.last) = subst (λ (z : Bytes). IsPart g.row.P (keys_in kb S) (at c.over.nodes) z c.over.loose.items (length z) (Leaf c.over.last)) same i.part.2 in
+    let is = key_read kb S c.over.last c.read.ensures.value c.as_bytes-key.ensures in
+    let part = part_at (keys_in kb S) (at c.over.nodes) c.over.loose.items c.over.last key c.over.invariant.part is in
     let none : number_after S c.over.last ≡ None = sym c.next_from.ensures ∙ c.in_default-next_from.is in
-    let r = i.room in
+    let r = c.over.invariant.room in
     (lit< tt, ((keys_in kb S, turn_last kb S c.requires.content c.law.ensures.distinct c.over.last key is none, part), omega arith))
 
 pub returns-in_default-next_from : goal.returns-in_default-next_from
@@ -49,10 +46,8 @@ returns-in_default-next_from g c =
     let kb = g.K.AsBytes.bytes in
     let S = c.args.leaves.now.pairs in
     let key = c.as_bytes-key.result.now in
-    let is : keys_in kb S c.over.last ≡ Some key = key_read kb S c.over.last c.read.ensures.value c.as_bytes-key.ensures in
-    let i = c.over.invariant in
-    let same : i.part.0 ≡ key = (let a : keys_in kb S c.over.last ≡ Some i.part.0 = i.part.1 in cc) in
-    let part : IsPart g.row.P (keys_in kb S) (at c.over.nodes) key c.over.loose.items (length key) (Leaf c.over.last) = subst (λ (z : Bytes). IsPart g.row.P (keys_in kb S) (at c.over.nodes) z c.over.loose.items (length z) (Leaf c.over.last)) same i.part.2 in
+    let is = key_read kb S c.over.last c.read.ensures.value c.as_bytes-key.ensures in
+    let part = part_at (keys_in kb S) (at c.over.nodes) c.over.loose.items c.over.last key c.over.invariant.part is in
     let none : number_after S c.over.last ≡ None = sym c.next_from.ensures ∙ c.in_default-next_from.is in
     record {
       content = c.requires.content;
@@ -88,12 +83,10 @@ close-to-requires g c =
     let kb = g.K.AsBytes.bytes in
     let S = c.args.leaves.now.pairs in
     let key = c.as_bytes-key.result.now in
-    let is : keys_in kb S c.over.last ≡ Some key = key_read kb S c.over.last c.read.ensures.value c.as_bytes-key.ensures in
+    let is = key_read kb S c.over.last c.read.ensures.value c.as_bytes-key.ensures in
     let next = key_read kb S c.in-Some-next_from.next c.read-in-over.ensures.value c.as_bytes.ensures in
-    let i = c.over.invariant in
-    let same : i.part.0 ≡ key = (let a : keys_in kb S c.over.last ≡ Some i.part.0 = i.part.1 in cc) in
-    let part : IsPart g.row.P (keys_in kb S) (at c.over.nodes) key c.over.loose.items (length key) (Leaf c.over.last) = subst (λ (z : Bytes). IsPart g.row.P (keys_in kb S) (at c.over.nodes) z c.over.loose.items (length z) (Leaf c.over.last)) same i.part.2 in
-    let r = i.room in
+    let part = part_at (keys_in kb S) (at c.over.nodes) c.over.loose.items c.over.last key c.over.invariant.part is in
+    let r = c.over.invariant.room in
     (lit< tt, ((keys_in kb S, turn_next kb S c.requires.content c.law.ensures.distinct c.over.last key is c.in-Some-next_from.next c.as_bytes.result.now (sym c.next_from.ensures ∙ c.in-Some-next_from.is) next c.common_len-depth.result c.common_len-depth.ensures, part), omega arith))
 
 pub push_reserved-requires : goal.push_reserved-requires
@@ -118,11 +111,9 @@ over-preserved g c =
     let q = c.as_bytes.result.now in
     let depth = c.common_len-depth.result in
     let after : number_after S c.over.last ≡ Some c.in-Some-next_from.next = sym c.next_from.ensures ∙ c.in-Some-next_from.is in
-    let is : keys_in kb S c.over.last ≡ Some key = key_read kb S c.over.last c.read.ensures.value c.as_bytes-key.ensures in
+    let is = key_read kb S c.over.last c.read.ensures.value c.as_bytes-key.ensures in
     let next : keys_in kb S c.in-Some-next_from.next ≡ Some q = key_read kb S c.in-Some-next_from.next c.read-in-over.ensures.value c.as_bytes.ensures in
-    let i = c.over.invariant in
-    let same : i.part.0 ≡ key = (let a : keys_in kb S c.over.last ≡ Some i.part.0 = i.part.1 in cc) in
-    let part : IsPart g.row.P (keys_in kb S) (at c.over.nodes) key c.over.loose.items (length key) (Leaf c.over.last) = subst (λ (z : Bytes). IsPart g.row.P (keys_in kb S) (at c.over.nodes) z c.over.loose.items (length z) (Leaf c.over.last)) same i.part.2 in
+    let part = part_at (keys_in kb S) (at c.over.nodes) c.over.loose.items c.over.last key c.over.invariant.part is in
     let turn : IsTurn (keys_in kb S) c.over.last key (depth + 1) = turn_next kb S c.requires.content c.law.ensures.distinct c.over.last key is c.in-Some-next_from.next q after next depth c.common_len-depth.ensures in
     let closed : IsPart g.row.P (keys_in kb S) (at c.close-to.new.nodes) key c.close-to.new.loose.items (depth + 1) c.close-to.result = c.close-to.ensures.part (keys_in kb S) turn part in
     let pushed = part_next (keys_in kb S) (at c.close-to.new.nodes) key (none_begins kb S c.requires.content c.law.ensures.distinct) c.close-to.new.loose.items depth c.close-to.result closed q c.in-Some-next_from.next next c.common_len-depth.ensures
@@ -131,8 +122,8 @@ over-preserved g c =
     (rises kb S c.requires.content c.law.ensures.distinct c.over.last key is c.in-Some-next_from.next q after next depth c.common_len-depth.ensures)
     (later kb S c.requires.content c.law.ensures.distinct c.over.last key is c.in-Some-next_from.next q after next) in
     let d = counts_down S c.over.last c.in-Some-next_from.next c.law.ensures.distinct after in
-    let r = i.room in
-    let p = i.places in
+    let r = c.over.invariant.room in
+    let p = c.over.invariant.places in
     let one = c.close-to.ensures.room in
     let fewer = c.close-to.ensures.fewer in
     let capacity = c.close-to.ensures.capacity in

@@ -7,7 +7,7 @@ use Rattle.art_tree.specs.Calls.Removing.{CutsAfter, IsChildBelow}
 use Rattle.art_kinds.specs.declared.records.ids.Child.{Child}
 use Rattle.art_kinds.specs.declared.records.ids.Child.TheVariants.{Inner}
 use Rattle.blart_keys.proofs.Options.{is_some, some_of}
-use Rattle.art_tree.proofs.Calls.Unlinking.{join_is}
+use Rattle.art_tree.proofs.Calls.Unlinking.{prepended_is}
 use Rattle.art_tree.proofs.tree.remove.prepend_prefix.Goals as goal
 
 pub join_prefix-requires : goal.join_prefix-requires
@@ -29,4 +29,4 @@ returns-in-Inner g c = λ keys above h.
     let w : IsChildBelow g.row.P keys nodes above n (record { byte = b; to = Inner m }) = record { root = h.root; shape = h.shape; leads = h.leads; node = h.node; is = h.is; there = there } in
     let y = some_of (nodes m) ((h.shape.node n h.node h.is).below b (Inner m) there).live in
     subst (λ (z : Child). CutsAfter g.row.P nodes (at c.join_prefix.new.self) h.shape.front_of (edge_front h.shape.front_of above) z) (sym c.in-Inner.is)
-    (subst (λ (p : Bytes). Reprefixes nodes (at c.join_prefix.new.self) m p) (join_is keys nodes above n m b w y.0 y.1) (c.join_prefix.ensures.joined y.0 h.node y.1 h.is))
+    (subst (λ (p : Bytes). Reprefixes nodes (at c.join_prefix.new.self) m p) (prepended_is keys nodes above n m b w y.0 y.1) (c.join_prefix.ensures.joined y.0 h.node y.1 h.is))
