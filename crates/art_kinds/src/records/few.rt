@@ -1,6 +1,6 @@
 //! A node with few children: their bytes in ascending order, and the children beside them.
-ghost use Rattle.std.specs.Prelude.{◌≡◌, ◌+◌, ◌-◌, ◌<◌, ◌≤◌, [], ◌∷◌, length, take, Some, None, IsSome};
-ghost use Rattle.art_kinds.specs.Edges.{child_at, Ascends, IsNext, IsPrevious, is_first, IsEnd, count_below, edges_with, edges_without, after, before, paired};
+ghost use Rattle.std.specs.Prelude.{◌≡◌, ◌<◌, ◌≤◌, [], ◌∷◌, length, take, Some};
+ghost use Rattle.art_kinds.specs.Edges.{child_at, IsNext, IsPrevious, is_first, IsEnd, count_below, after, before, paired};
 
 use crate::records::children::Children;
 use crate::records::ids::{Child, Edge, End};
@@ -123,23 +123,21 @@ impl<const N: usize> Children for Few<N> {
     }
 
     fn insert(&mut self, byte: u8, to: Child) {
-        insert_in(
-            &mut self.bytes,
-            &mut self.children,
-            self.count as usize,
-            byte,
-            Link::of(to),
-        );
+        let count = self.count as usize;
+        let place = place_of(&self.bytes[..count], byte);
+        self.bytes.copy_within(place..count, place + 1);
+        self.children.copy_within(place..count, place + 1);
+        self.bytes[place] = byte;
+        self.children[place] = Link::of(to);
         self.count += 1;
     }
 
+    /// The edges after the removed edge move up by one place.
     fn remove(&mut self, byte: u8) {
-        remove_in(
-            &mut self.bytes,
-            &mut self.children,
-            self.count as usize,
-            byte,
-        );
+        let count = self.count as usize;
+        let place = place_of(&self.bytes[..count], byte);
+        self.bytes.copy_within(place + 1..count, place);
+        self.children.copy_within(place + 1..count, place);
         self.count -= 1;
     }
 
@@ -210,36 +208,6 @@ fn place_of(bytes: &[u8], byte: u8) -> usize
         place += 1;
     }
     place
-}
-
-/// Inserts an edge among the first `count` edges, before the first with a byte that is not less.
-fn insert_in(bytes: &mut [u8], children: &mut [Link], count: usize, byte: u8, to: Link)
-    requires within { count < length bytes.old }
-    requires same { length children.old ≡ length bytes.old }
-    ensures { take (count + 1) (paired bytes.new children.new)
-        ≡ edges_with (take count (paired bytes.old children.old))
-        (record { byte = byte; to = to }) }
-{
-    let place = place_of(&bytes[..count], byte);
-    bytes.copy_within(place..count, place + 1);
-    children.copy_within(place..count, place + 1);
-    bytes[place] = byte;
-    children[place] = to;
-}
-
-/// Removes the edge at a byte from the first `count` edges. The edges after it move up by one
-/// place.
-fn remove_in(bytes: &mut [u8], children: &mut [Link], count: usize, byte: u8)
-    requires within { count ≤ length bytes.old }
-    requires same { length children.old ≡ length bytes.old }
-    requires ascends { Ascends (take count (paired bytes.old children.old)) }
-    requires there { IsSome (child_at (take count (paired bytes.old children.old)) byte) }
-    ensures { take (count - 1) (paired bytes.new children.new)
-        ≡ edges_without (take count (paired bytes.old children.old)) byte }
-{
-    let place = place_of(&bytes[..count], byte);
-    bytes.copy_within(place + 1..count, place);
-    children.copy_within(place + 1..count, place);
 }
 
 impl Few<4> {

@@ -1,5 +1,5 @@
 //! A node with room for a child at each byte.
-ghost use Rattle.std.specs.Prelude.{ℕ, ◌≡◌, ◌+◌, ◌<◌, ◌≤◌, length, None};
+ghost use Rattle.std.specs.Prelude.{ℕ, ◌≡◌, ◌<◌, ◌≤◌, length, None};
 ghost use Rattle.art_kinds.specs.Edges.{child_at, IsFrom, IsNext, IsPrevious, is_first, IsEnd};
 
 use crate::records::children::Children;

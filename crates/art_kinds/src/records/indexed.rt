@@ -1,5 +1,5 @@
 //! A node with an index of its children by byte.
-ghost use Rattle.std.specs.Prelude.{ℕ, ◌≡◌, ◌+◌, ◌<◌, ◌≤◌, length, Some, None, slice_index_or};
+ghost use Rattle.std.specs.Prelude.{ℕ, ◌≡◌, ◌<◌, ◌≤◌, length, Some, None, slice_index_or};
 ghost use Rattle.art_kinds.specs.Edges.{child_at, IsFrom, IsNext, IsPrevious, is_first, IsEnd, moved};
 
 use crate::records::children::Children;
