@@ -10,9 +10,9 @@ pub use Rattle.blart_keys.proofs.Overlapped.{overlaps_near, overlaps_apart, over
 -- what a walk from both ends returned
 pub use Rattle.blart_keys.proofs.WalkLemmas.{walked_start, walked_first, walked_last, walked_end}
 -- a map split in two, and joined again
-pub use Rattle.art_insert.proofs.Moved.Appending.{joined_parts}
+pub use Rattle.art_edits.proofs.Moved.Appending.{joined_parts}
 -- a new pair that an entry placed and then removed
-pub use Rattle.art_insert.proofs.Placed.TakenBack.{taken_back}
+pub use Rattle.art_edits.proofs.Placed.TakenBack.{taken_back}
 -- what is kept by a closure that depends on the pair alone, or counts; what is written by one that
 -- keeps each pair
 pub use Rattle.blart_map.proofs.Taken.Filtered.{kept_by, kept_by_retained, take_from_kept, filter_from_retained, map_from_retained}

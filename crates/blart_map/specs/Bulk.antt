@@ -4,7 +4,7 @@ use Rattle.std.specs.Iterator.{Yields, Drains}
 -- each pair is a clone of the pair at its place
 pub use Rattle.art_tree.specs.Clones.{IsPairClone, AreClones}
 -- the first, if there is one, or else the second
-pub use Rattle.art_insert.specs.Bulk.{or_else}
+pub use Rattle.art_edits.specs.Bulk.{or_else}
 
 module _ {I A E : Type 0} (steps : I → Option A → I → Type 0) (items : I) where
   -- all items are put; or those before one with new bytes, for which it fails to allocate

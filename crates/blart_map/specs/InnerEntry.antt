@@ -7,7 +7,7 @@ use Rattle.blart_keys.specs.Steps.{bytes as pair_bytes}
 use Rattle.blart_keys.specs.Stored.{value_at, Overwrites, Updates}
 use Rattle.art_tree.specs.Leaves.{Numbered, with_pair, with_value}
 use Rattle.blart_map.specs.Content.{pairs}
-use Rattle.art_insert.specs.Spans.{thinned}
+use Rattle.art_edits.specs.Spans.{thinned}
 use Rattle.blart_map.specs.Entry.{Occupied, entry_pair, entry_bytes}
 use Rattle.blart_map.specs.declared.occupied.OccupiedEntry.{OccupiedEntry}
 use Rattle.blart_map.specs.declared.inner.InnerOccupiedEntry.{InnerOccupiedEntry}

@@ -2,7 +2,7 @@
 use Rattle.std.specs.Prelude.{◌≡◌, List, Result}
 use Rattle.std.specs.Borrow.{LendsSoOk, Fml, RattleType, MutBor}
 use Rattle.blart_keys.specs.declared.AsBytes.{Ghosts}
-use Rattle.art_insert.specs.Places.{IsSetAt}
+use Rattle.art_edits.specs.Places.{IsSetAt}
 use Rattle.blart_map.specs.Content.{Numbered, pairs}
 use Rattle.blart_map.specs.contracts.map.TreeMap as tree_map
 

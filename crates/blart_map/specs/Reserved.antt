@@ -7,7 +7,7 @@ use Rattle.blart_map.specs.contracts.map.TreeMap as tree_map
 use Rattle.blart_map.specs.declared.reserved.Room.{Room}
 use Rattle.blart_map.specs.declared.reserved.Reserved.{Reserved}
 -- the result of an insertion here, and the number of pairs that it added
-pub use Rattle.art_insert.specs.Reserved.{as_tried, added, added_ok}
+pub use Rattle.art_edits.specs.Reserved.{as_tried, added, added_ok}
 
 -- the reference to the map or set that the guard holds
 abbrev pub reserved_map : {M R : Type 0} → Reserved M R → MutBor M

@@ -10,11 +10,11 @@ ghost use Rattle.art_tree.specs.declared.tree.point.Point.TheVariants.{Exact};
 ghost use Rattle.art_tree.specs.Pairs.{pairs_of};
 ghost use Rattle.art_walk.specs.Cursor.{span_of, IsSpan};
 ghost use Rattle.blart_map.specs.EntryLends.{rests_if_none};
-ghost use Rattle.art_insert.specs.Places.{IsPlaced};
+ghost use Rattle.art_edits.specs.Places.{IsPlaced};
 
 use crate::map::TreeMap;
 use crate::occupied::{Occupied, OccupiedEntry};
-use art_insert::{place_ready, point_of_disjoint, room_for};
+use art_edits::{place_ready, point_of_disjoint, room_for};
 use art_tree::{LeafId, Point, Visits};
 use art_walk::SubtreeIter;
 use blart_keys::{AsBytes, NoPrefixesBytes};

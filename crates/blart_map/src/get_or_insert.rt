@@ -45,7 +45,7 @@ impl<K: NoPrefixesBytes + Drop, V: Drop, const PREFIX_LEN: usize> TreeMap<K, V, 
     /// Returns an error only if the bytes are new. The map is then unchanged.
     ///
     /// Cost: one descent, and for new bytes also an insertion.
-    #[tactic(auto, using(art_insert::proofs::Placed::SettingAt::new_none), unfolding(crate::specs::Content::pairs))]
+    #[tactic(auto, using(art_edits::proofs::Placed::SettingAt::new_none), unfolding(crate::specs::Content::pairs))]
     pub fn get_or_insert_with<F: FnOnce() -> V + Drop>(
         &mut self,
         key: K,

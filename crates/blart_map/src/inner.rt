@@ -7,7 +7,7 @@ ghost use Rattle.blart_keys.specs.Content.{subtree};
 ghost use Rattle.blart_keys.specs.Stored.{shown, CanCount};
 ghost use Rattle.art_tree.specs.Leaves.{bytes};
 ghost use Rattle.blart_map.specs.Content.{pairs};
-ghost use Rattle.art_insert.specs.Spans.{spans};
+ghost use Rattle.art_edits.specs.Spans.{spans};
 
 use crate::map::TreeMap;
 use crate::occupied::{Occupied, OccupiedEntry};

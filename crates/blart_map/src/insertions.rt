@@ -7,7 +7,7 @@ ghost use Rattle.blart_map.specs.Content.{pairs};
 ghost use Rattle.blart_keys.specs.Routed.{OverlapsToo};
 
 use crate::map::TreeMap;
-use art_insert::{insert, insert_disjoint, replace};
+use art_edits::{insert, insert_disjoint, replace};
 use blart_keys::{AsBytes, NoPrefixesBytes, TryInsertError};
 use std::alloc::AllocError;
 

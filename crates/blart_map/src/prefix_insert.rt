@@ -6,12 +6,12 @@ ghost use Rattle.blart_keys.specs.Steps.{bytes, PutsOver};
 ghost use Rattle.blart_keys.specs.Stored.{pair_at_front, has, overlaps, Overwrites};
 ghost use Rattle.art_tree.specs.Leaves.{leaf_in, with_pair};
 ghost use Rattle.blart_map.specs.Content.{pairs};
-ghost use Rattle.art_insert.specs.Spans.{Spans, thinned};
+ghost use Rattle.art_edits.specs.Spans.{Spans, thinned};
 ghost use Rattle.blart_keys.specs.Routed.{spared_item};
 ghost use Rattle.art_tree.specs.Pairs.{pairs_of};
 
 use crate::map::TreeMap;
-use art_insert::leave_one;
+use art_edits::leave_one;
 use art_tree::{LeafId, Point};
 use blart_keys::AsBytes;
 use std::alloc::AllocError;

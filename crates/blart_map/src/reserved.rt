@@ -6,10 +6,10 @@ ghost use Rattle.blart_keys.specs.Content.{IsContent, IsPut};
 ghost use Rattle.blart_keys.specs.Steps.{bytes, Puts};
 ghost use Rattle.blart_keys.specs.Stored.{kept, pair_at_front, value_at, overlaps, Updates};
 ghost use Rattle.art_tree.specs.Content.{room};
-ghost use Rattle.art_insert.specs.Reserved.{as_tried, added, added_ok};
+ghost use Rattle.art_edits.specs.Reserved.{as_tried, added, added_ok};
 
 use crate::map::TreeMap;
-use art_insert::{insert_disjoint_reserved, insert_reserved};
+use art_edits::{insert_disjoint_reserved, insert_reserved};
 use art_tree::Tree;
 use blart_keys::{AsBytes, InsertPrefixError, NoPrefixesBytes};
 use std::alloc::AllocError;

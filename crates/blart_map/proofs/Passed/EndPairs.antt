@@ -5,7 +5,7 @@ use Rattle.art_tree.specs.Leaves.{Numbered, leaf_in, Has, AreDistinct, without_n
 use Rattle.art_tree.proofs.CallerLemmas.{Has-last, no_last}
 use Rattle.blart_keys.proofs.Options.{some_of, is_some as has_value}
 use Rattle.art_tree.specs.Pairs.{pairs_of}
-use Rattle.art_insert.proofs.Numbers.{last_pair, slice_get-last}
+use Rattle.art_edits.proofs.Numbers.{last_pair, slice_get-last}
 
 module _ {K V : Type 0} (ps : List (Numbered K V)) (id : ℕ) where
   -- the first number names the first pair

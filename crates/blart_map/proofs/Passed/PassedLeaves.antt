@@ -13,7 +13,7 @@ use Rattle.art_walk.specs.Cursor.{leaves_left, FitsIn, PassesFirst, PassesLast}
 use Rattle.art_walk.proofs.Changes.{left_without}
 use Rattle.art_walk.proofs.Passing.{passed_at}
 use Rattle.blart_map.specs.Passed.{WasFirst, WasLast, StaysLeft}
-use Rattle.art_insert.proofs.Numbers.{removed_pairs, pairs_content}
+use Rattle.art_edits.proofs.Numbers.{removed_pairs, pairs_content}
 
 module _ {K V : Type 0} (ps : List (Numbered K V)) (distinct : AreDistinct ps) where
   module _ (old new : Cursor) (before : FitsIn old ps) (fits : FitsIn new ps) where

@@ -16,9 +16,9 @@ use Rattle.art_tree.proofs.CallerLemmas.{leaf_in-member, AreDistinct-filter, two
 use Rattle.art_walk.specs.Cursor.{span_of, IsSpan}
 use Rattle.art_walk.proofs.Ranges.{subtree_span}
 use Rattle.blart_map.specs.InnerEntry.{only}
-use Rattle.art_insert.specs.Spans.{is_number, spans, Spans}
-use Rattle.art_insert.proofs.Placed.Setting.{rewritten}
-use Rattle.art_insert.proofs.Related.Thinning.{first_has}
+use Rattle.art_edits.specs.Spans.{is_number, spans, Spans}
+use Rattle.art_edits.proofs.Placed.Setting.{rewritten}
+use Rattle.art_edits.proofs.Related.Thinning.{first_has}
 
 is_number_Some : (o : Option ℕ) (i : ℕ) → is_number o i ≡ true → o ≡ Some i
 is_number_Some None i e = absurd (false≢true e)

@@ -16,7 +16,7 @@ use Rattle.blart_map.specs.Content.{pairs}
 use Rattle.blart_map.specs.declared.walks.extract_if.ExtractIf.{ExtractIf}
 use Rattle.blart_map.specs.ExtractIf.{extract_left, ExtractsFirstTrue, stands_at, ExtractsNext}
 use Rattle.blart_map.specs.OnceTaken.{taken_all, once_extracted, still_to_extract}
-use Rattle.art_insert.proofs.Numbers.{cut_at, cut_pairs, left_pairs}
+use Rattle.art_edits.proofs.Numbers.{cut_at, cut_pairs, left_pairs}
 use Rattle.blart_map.proofs.Taken.OnceTaken.{same_value}
 
 module _ {K V F : Type 0} (g : Mut F (Bor K × (MutBor V × Unit {0})) (Bool × (MutBor V × Unit {0}))) (I : F → Type 0) (test : K × V → Bool)

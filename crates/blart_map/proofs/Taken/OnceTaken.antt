@@ -13,7 +13,7 @@ use Rattle.blart_map.specs.declared.walks.take_walk.TakeWalk.{TakeWalk}
 use Rattle.blart_keys.specs.declared.AsBytes.{Ghosts}
 use Rattle.std.specs.Prelude.{MatchOption, ⊤}
 use Rattle.art_tree.specs.Pairs.{pairs_of}
-use Rattle.art_insert.proofs.Numbers.{lacks_filter}
+use Rattle.art_edits.proofs.Numbers.{lacks_filter}
 
 module _ {K V : Type 0} (test : K × V → Bool) where
   -- ---- all at once

@@ -8,7 +8,7 @@ use Rattle.art_walk.specs.Cursor.{leaves_left}
 use Rattle.art_walk.specs.Lent.{written_all}
 use Rattle.blart_map.specs.Content.{pairs}
 use Rattle.blart_map.specs.OnceWritten.{rewritten, all_rewritten}
-use Rattle.art_insert.proofs.Numbers.{lacks_filter}
+use Rattle.art_edits.proofs.Numbers.{lacks_filter}
 
 module _ {K V : Type 0} (f : K × V → V) where
   -- a first pair with another number is unchanged

@@ -2,8 +2,8 @@
 use Rattle.std.proofs.Common.{◌≡◌, ℕ, Option, Some, option_map, List, [], ◌∷◌, ◌++◌, sym, ap, ◌∙◌, subst}
 use Rattle.std.specs.Prelude.{MatchOption, ⊤}
 use Rattle.art_tree.specs.Leaves.{Numbered, leaf_in, Lacks, with_value}
-use Rattle.art_insert.proofs.Placed.Again.{with_with}
-use Rattle.art_insert.proofs.Placed.Setting.{pair_written as pair_set}
+use Rattle.art_edits.proofs.Placed.Again.{with_with}
+use Rattle.art_edits.proofs.Placed.Setting.{pair_written as pair_set}
 use Rattle.art_walk.specs.Lent.{written_all, written_last, LentFirst, LentLast}
 use Rattle.art_walk.proofs.Lending.{written_past, written_after}
 use Rattle.art_walk.proofs.Steps.{some_inj}

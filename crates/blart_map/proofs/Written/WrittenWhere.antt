@@ -6,7 +6,7 @@ use Rattle.art_tree.specs.Leaves.{Numbered, AreDistinct}
 use Rattle.blart_map.specs.Content.{pairs}
 use Rattle.blart_map.specs.EachWritten.{CalledAtEach, with_values_where, written_with, WritesLeft, WritesWhere, LeavesPair, ActsWhere}
 use Rattle.blart_map.proofs.Written.EachWritten.{after_front, front_written}
-use Rattle.art_insert.proofs.Numbers.{lacks_filter}
+use Rattle.art_edits.proofs.Numbers.{lacks_filter}
 use Rattle.blart_keys.proofs.Mapped.{filter-map}
 use Rattle.art_tree.specs.Pairs.{pairs_of}
 

@@ -8,7 +8,7 @@ ghost use Rattle.blart_map.specs.Bulk.{or_else};
 ghost use Rattle.blart_map.specs.Content.{pairs};
 
 use crate::map::TreeMap;
-use art_insert::move_into;
+use art_edits::move_into;
 use blart_keys::NoPrefixesBytes;
 use std::alloc::AllocError;
 

@@ -10,7 +10,7 @@ ghost use Rattle.blart_keys.specs.Stored.{kept_pair};
 ghost use Rattle.blart_map.specs.Content.{pairs};
 
 use crate::map::TreeMap;
-use art_insert::put_ascending;
+use art_edits::put_ascending;
 use art_tree::{Frame, Pairs, Tree};
 use blart_keys::{AsBytes, NoPrefixesBytes};
 use std::alloc::{AllocError, Global};

@@ -8,7 +8,7 @@ ghost use Rattle.blart_keys.specs.Stored.{pair_at};
 ghost use Rattle.blart_map.specs.Content.{pairs};
 
 use crate::map::TreeMap;
-use art_insert::part;
+use art_edits::part;
 use art_tree::Tree;
 use art_walk::Range;
 use blart_keys::AsBytes;

@@ -1,6 +1,6 @@
 use Rattle.std.proofs.Common.{refl}
 use Rattle.blart_map.specs.Content.{pairs}
-use Rattle.art_insert.proofs.Placed.Again.{key_written, value_written, set_again}
+use Rattle.art_edits.proofs.Placed.Again.{key_written, value_written, set_again}
 use Rattle.blart_map.proofs.entry.Entry.and_modify.Goals as goal
 
 pub returns-in-Occupied : goal.returns-in-Occupied

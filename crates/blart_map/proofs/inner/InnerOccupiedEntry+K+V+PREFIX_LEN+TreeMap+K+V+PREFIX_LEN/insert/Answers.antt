@@ -2,8 +2,8 @@ use Rattle.std.proofs.Common.{◌≡◌, ◌∙◌, refl, sym, ap, subst, option
 use Rattle.art_tree.specs.Leaves.{with_value}
 use Rattle.blart_map.specs.Content.{pairs}
 use Rattle.blart_map.specs.InnerEntry.{over_leaf, IsOverSet}
-use Rattle.art_insert.specs.Spans.{thinned}
-use Rattle.art_insert.proofs.Related.OverWritten.{written_now, over_written}
+use Rattle.art_edits.specs.Spans.{thinned}
+use Rattle.art_edits.proofs.Related.OverWritten.{written_now, over_written}
 use Rattle.blart_map.proofs.inner.InnerOccupiedEntry+K+V+PREFIX_LEN+TreeMap+K+V+PREFIX_LEN.insert.Goals as goal
 
 pub returns : goal.returns

@@ -2,8 +2,8 @@ use Rattle.std.proofs.Common.{◌∙◌, ap}
 use Rattle.std.proofs.lemmas.Result.{on_ok_weaker, on_err_weaker}
 use Rattle.art_tree.specs.Pairs.{pairs_of}
 use Rattle.blart_map.specs.Content.{pairs}
-use Rattle.art_insert.proofs.Numbers.{no_pairs}
-use Rattle.art_insert.proofs.Moved.Appending.{appended_at, joined_at}
+use Rattle.art_edits.proofs.Numbers.{no_pairs}
+use Rattle.art_edits.proofs.Moved.Appending.{appended_at, joined_at}
 use Rattle.blart_map.proofs.map.TreeMap.append.Goals as goal
 
 pub returns-clause-found : goal.returns-clause-found

@@ -1,7 +1,7 @@
 use Rattle.std.proofs.Common.{◌∙◌, sym}
 use Rattle.blart_keys.specs.Stored.{overlaps}
 use Rattle.blart_map.specs.Content.{pairs}
-use Rattle.art_insert.proofs.Placed.Inserting.{conflict_pairs, unrelated_point}
+use Rattle.art_edits.proofs.Placed.Inserting.{conflict_pairs, unrelated_point}
 use Rattle.blart_map.proofs.map.TreeMap.conflicts.Goals as goal
 
 pub returns-in-Related-clause-value : goal.returns-in-Related-clause-value

@@ -1,7 +1,7 @@
 use Rattle.std.proofs.Common.{List, length, lit<, ap, arith}
 use Rattle.blart_keys.specs.Steps.{bytes}
 use Rattle.blart_map.specs.Content.{pairs}
-use Rattle.art_insert.proofs.Moved.Parting.{part_lengths}
+use Rattle.art_edits.proofs.Moved.Parting.{part_lengths}
 use Rattle.blart_map.proofs.map.TreeMap.count_from.Goals as goal
 
 pub count_after-requires : goal.count_after-requires

@@ -3,7 +3,7 @@ use Rattle.blart_keys.specs.Bounds.{bound_bytes, is_from_start, is_up_to_end}
 use Rattle.blart_keys.proofs.Mapped.{filter-map}
 use Rattle.art_tree.specs.Pairs.{pairs_of}
 use Rattle.blart_map.specs.Content.{pairs}
-use Rattle.art_insert.proofs.Numbers.{no_pairs}
+use Rattle.art_edits.proofs.Numbers.{no_pairs}
 use Rattle.blart_map.proofs.Passed.Walking.{longest_pairs}
 use Rattle.blart_map.proofs.map.TreeMap.cursor_counted.Goals as goal
 

@@ -1,6 +1,6 @@
 use Rattle.std.proofs.Common.{refl}
 use Rattle.blart_map.specs.Content.{pairs}
-use Rattle.art_insert.proofs.Related.EntryOf.{exact_bytes, exact_pair, exact_kind, exact_some, absent_pair, vacant_kind}
+use Rattle.art_edits.proofs.Related.EntryOf.{exact_bytes, exact_pair, exact_kind, exact_some, absent_pair, vacant_kind}
 use Rattle.blart_map.proofs.map.TreeMap.entry.Goals as goal
 
 pub returns-in-Some-clause-is_for : goal.returns-in-Some-clause-is_for

@@ -4,7 +4,7 @@ use Rattle.std.proofs.iter.Next as it
 use Rattle.blart_keys.specs.Steps.{bytes}
 use Rattle.blart_keys.specs.Stored.{kept_pair}
 use Rattle.blart_map.specs.Content.{pairs}
-use Rattle.art_insert.proofs.Moved.BulkPuts.{puts_more, puts_same}
+use Rattle.art_edits.proofs.Moved.BulkPuts.{puts_more, puts_same}
 use Rattle.blart_map.proofs.map.TreeMap.extend.Goals as goal
 
 pub loop-item-preserved : goal.loop-item-preserved

@@ -2,7 +2,7 @@ use Rattle.std.proofs.Common.{rules, ap}
 use Rattle.blart_keys.proofs.StoredLemmas.{stored_at}
 use Rattle.art_tree.specs.Pairs.{pairs_of}
 use Rattle.blart_map.specs.Content.{pairs}
-use Rattle.art_insert.proofs.Numbers.{whole_pairs}
+use Rattle.art_edits.proofs.Numbers.{whole_pairs}
 use Rattle.blart_map.proofs.map.TreeMap.first_key_value.Goals as goal
 
 pub returns-clause-stored : goal.returns-clause-stored

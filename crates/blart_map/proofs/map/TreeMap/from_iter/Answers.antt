@@ -5,7 +5,7 @@ use Rattle.blart_keys.specs.Bulk.{PutsAll}
 use Rattle.blart_keys.specs.Steps.{bytes}
 use Rattle.blart_keys.specs.Stored.{kept_pair}
 use Rattle.blart_map.specs.Content.{pairs}
-use Rattle.art_insert.proofs.Moved.BulkPuts.{first_came, refused_some, on_ok}
+use Rattle.art_edits.proofs.Moved.BulkPuts.{first_came, refused_some, on_ok}
 use Rattle.blart_map.proofs.map.TreeMap.from_iter.Goals as goal
 
 pub returns-in-Err-clause-refused : goal.returns-in-Err-clause-refused

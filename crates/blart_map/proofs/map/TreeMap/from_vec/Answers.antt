@@ -9,7 +9,7 @@ use Rattle.blart_keys.specs.Steps.{bytes}
 use Rattle.blart_keys.specs.Stored.{kept_pair}
 use Rattle.blart_keys.proofs.ContentLemmas.{empty_content}
 use Rattle.blart_map.specs.Content.{pairs}
-use Rattle.art_insert.proofs.Moved.BulkPuts.{of_all, on_ok}
+use Rattle.art_edits.proofs.Moved.BulkPuts.{of_all, on_ok}
 use Rattle.blart_keys.proofs.BulkLemmas.{puts_reordered, same_from_stable, kept_pair-bytes}
 use Rattle.blart_map.proofs.map.TreeMap.from_vec.Goals as goal
 

@@ -3,7 +3,7 @@ use Rattle.blart_keys.specs.Stored.{pair_at}
 use Rattle.blart_keys.proofs.StoredLemmas.{pair_at_bytes}
 use Rattle.art_tree.specs.Pairs.{pairs_of}
 use Rattle.blart_map.specs.Content.{pairs}
-use Rattle.art_insert.proofs.Numbers.{found_pairs, no_pairs}
+use Rattle.art_edits.proofs.Numbers.{found_pairs, no_pairs}
 use Rattle.blart_map.proofs.map.TreeMap.get_key_value_counted.Goals as goal
 
 pub returns-in-Some-clause-value : goal.returns-in-Some-clause-value

@@ -2,7 +2,7 @@ use Rattle.std.proofs.Common.{refl, sym, ap, ◌∙◌, ◌≡◌, Some, option_
 use Rattle.std.proofs.lemmas.Bool.{false≢true}
 use Rattle.art_tree.specs.Pairs.{pairs_of}
 use Rattle.blart_map.specs.Content.{pairs}
-use Rattle.art_insert.proofs.Placed.SettingAt.{exact_set_at, exact_value_at, new_has, new_value_at, new_set_at}
+use Rattle.art_edits.proofs.Placed.SettingAt.{exact_set_at, exact_value_at, new_has, new_value_at, new_set_at}
 use Rattle.blart_map.proofs.map.TreeMap.get_or_insert.Goals as goal
 
 pub returns-in-Some : goal.returns-in-Some

@@ -4,7 +4,7 @@ use Rattle.art_tree.proofs.CallerLemmas.{Has-last, no_last}
 use Rattle.blart_keys.proofs.StoredLemmas.{stored_at}
 use Rattle.art_tree.specs.Pairs.{pairs_of}
 use Rattle.blart_map.specs.Content.{pairs}
-use Rattle.art_insert.proofs.Numbers.{whole_pairs, last_pair, slice_get-last}
+use Rattle.art_edits.proofs.Numbers.{whole_pairs, last_pair, slice_get-last}
 use Rattle.blart_map.proofs.map.TreeMap.last_key_value.Goals as goal
 
 pub returns-in_err-id-clause-value : goal.returns-in_err-id-clause-value

@@ -1,5 +1,5 @@
-use Rattle.art_insert.proofs.Placed.Inserting.{exact_has, opens_else}
-use Rattle.art_insert.proofs.Related.EntryOf.{open_absent, open_free}
+use Rattle.art_edits.proofs.Placed.Inserting.{exact_has, opens_else}
+use Rattle.art_edits.proofs.Related.EntryOf.{open_absent, open_free}
 use Rattle.blart_map.proofs.map.TreeMap.leaf_of_disjoint.Goals as goal
 
 pub returns-in-Exact-clause-there : goal.returns-in-Exact-clause-there

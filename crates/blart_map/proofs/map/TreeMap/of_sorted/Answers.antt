@@ -3,7 +3,7 @@ use Rattle.std.proofs.lemmas.Result.{on_err_weaker}
 use Rattle.blart_keys.specs.Bulk.{PutsAll}
 use Rattle.blart_keys.specs.Steps.{bytes}
 use Rattle.blart_keys.specs.Stored.{kept_pair}
-use Rattle.art_insert.proofs.Moved.BulkPuts.{on_ok}
+use Rattle.art_edits.proofs.Moved.BulkPuts.{on_ok}
 use Rattle.blart_map.proofs.map.TreeMap.of_sorted.Goals as goal
 
 pub returns-clause-made : goal.returns-clause-made

@@ -3,8 +3,8 @@ use Rattle.blart_keys.specs.Steps.{bytes}
 use Rattle.blart_keys.proofs.Mapped.{content_map}
 use Rattle.art_tree.specs.Leaves.{leaf_in, with_pair}
 use Rattle.art_tree.proofs.CallerLemmas.{leaf_in-with_now}
-use Rattle.art_insert.specs.Spans.{LeavesOne}
-use Rattle.art_insert.proofs.Related.Thinning.{first_has, one_takes, over_one}
+use Rattle.art_edits.specs.Spans.{LeavesOne}
+use Rattle.art_edits.proofs.Related.Thinning.{first_has, one_takes, over_one}
 use Rattle.blart_map.proofs.map.TreeMap.overwrite.Goals as goal
 
 pub swap-requires : goal.swap-requires

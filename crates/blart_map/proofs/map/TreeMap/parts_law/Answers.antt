@@ -1,4 +1,4 @@
-use Rattle.art_insert.proofs.Moved.Appending.{joined_parts}
+use Rattle.art_edits.proofs.Moved.Appending.{joined_parts}
 use Rattle.blart_map.specs.Content.{pairs}
 use Rattle.blart_map.proofs.map.TreeMap.parts_law.Goals as goal
 

@@ -1,5 +1,5 @@
 use Rattle.std.proofs.Common.{◌∙◌, subst}
-use Rattle.art_insert.specs.Places.{IsPlaced}
+use Rattle.art_edits.specs.Places.{IsPlaced}
 use Rattle.blart_map.proofs.map.TreeMap.place_new_with.Goals as goal
 
 pub returns-in-Ok-clause-placed : goal.returns-in-Ok-clause-placed

@@ -2,7 +2,7 @@ use Rattle.std.proofs.Common.{rules, ap}
 use Rattle.blart_keys.proofs.StoredLemmas.{takes_first}
 use Rattle.art_tree.specs.Pairs.{pairs_of}
 use Rattle.blart_map.specs.Content.{pairs}
-use Rattle.art_insert.proofs.Numbers.{whole_pairs}
+use Rattle.art_edits.proofs.Numbers.{whole_pairs}
 use Rattle.blart_map.proofs.Popped.{routes_first}
 use Rattle.blart_map.proofs.map.TreeMap.pop_first.Goals as goal
 

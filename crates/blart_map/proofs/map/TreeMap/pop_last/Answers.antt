@@ -3,7 +3,7 @@ use Rattle.art_tree.proofs.CallerLemmas.{Has-last, no_last}
 use Rattle.blart_keys.proofs.StoredLemmas.{takes_last}
 use Rattle.art_tree.specs.Pairs.{pairs_of}
 use Rattle.blart_map.specs.Content.{pairs}
-use Rattle.art_insert.proofs.Numbers.{last_pair, whole_pairs}
+use Rattle.art_edits.proofs.Numbers.{last_pair, whole_pairs}
 use Rattle.blart_map.proofs.Popped.{routes_last}
 use Rattle.blart_map.proofs.map.TreeMap.pop_last.Goals as goal
 

@@ -1,9 +1,9 @@
 use Rattle.std.proofs.Common.{refl}
 use Rattle.blart_keys.specs.Stored.{overlaps}
 use Rattle.blart_map.specs.Content.{pairs}
-use Rattle.art_insert.proofs.Placed.Inserting.{exact_has, opens}
+use Rattle.art_edits.proofs.Placed.Inserting.{exact_has, opens}
 use Rattle.blart_map.proofs.Related.InnerPairs.{to_spans}
-use Rattle.art_insert.proofs.Related.EntryOf.{exact_bytes, exact_pair, exact_kind, exact_some, exact_inner, related_inner, open_inner, related_kind, related_pair, open_absent, open_free, open_pair, open_kind}
+use Rattle.art_edits.proofs.Related.EntryOf.{exact_bytes, exact_pair, exact_kind, exact_some, exact_inner, related_inner, open_inner, related_kind, related_pair, open_absent, open_free, open_pair, open_kind}
 use Rattle.blart_map.proofs.map.TreeMap.prefix_entry.Goals as goal
 
 pub invariant_of-result : goal.invariant_of-result

@@ -2,7 +2,7 @@ use Rattle.std.proofs.Common.{refl, ap, ◌∙◌, is_some}
 use Rattle.blart_keys.specs.Bytes.{begins}
 use Rattle.blart_keys.specs.Stored.{pair_at_front}
 use Rattle.blart_map.specs.Content.{pairs}
-use Rattle.art_insert.proofs.Numbers.{found, found_has, found_pair, found_none}
+use Rattle.art_edits.proofs.Numbers.{found, found_has, found_pair, found_none}
 use Rattle.blart_map.proofs.map.TreeMap.prefix_get_key_value_mut.Goals as goal
 
 pub invariant_of-self : goal.invariant_of-self

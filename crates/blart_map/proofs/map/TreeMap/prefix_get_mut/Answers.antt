@@ -5,8 +5,8 @@ use Rattle.blart_keys.proofs.StoredLemmas.{written_front_writes, written_at_fron
 use Rattle.art_tree.specs.Leaves.{with_value}
 use Rattle.art_tree.specs.Pairs.{pairs_of}
 use Rattle.blart_map.specs.Content.{pairs}
-use Rattle.art_insert.proofs.Numbers.{found_has, found_value, found_none}
-use Rattle.art_insert.proofs.Placed.Writing.{written_front}
+use Rattle.art_edits.proofs.Numbers.{found_has, found_value, found_none}
+use Rattle.art_edits.proofs.Placed.Writing.{written_front}
 use Rattle.blart_map.proofs.map.TreeMap.prefix_get_mut.Goals as goal
 
 pub value_mut-requires : goal.value_mut-requires

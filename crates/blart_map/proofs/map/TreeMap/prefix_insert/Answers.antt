@@ -4,11 +4,11 @@ use Rattle.blart_keys.specs.Content.{IsOver}
 use Rattle.blart_keys.specs.Steps.{bytes}
 use Rattle.blart_keys.proofs.StoredLemmas.{overwrites_over, before_over, alone_free, alone_absent}
 use Rattle.blart_map.specs.Content.{pairs}
-use Rattle.art_insert.proofs.Numbers.{whole_pairs}
+use Rattle.art_edits.proofs.Numbers.{whole_pairs}
 use Rattle.blart_keys.proofs.Overwritten.{routes_over}
 use Rattle.art_tree.specs.Pairs.{pairs_of}
-use Rattle.art_insert.proofs.Placed.Inserting.{opens_else, open_alone, exact_has, exact_takes, placed, exchanged}
-use Rattle.art_insert.proofs.Related.Thinning.{over_of_put, no_subtree_pairs}
+use Rattle.art_edits.proofs.Placed.Inserting.{opens_else, open_alone, exact_has, exact_takes, placed, exchanged}
+use Rattle.art_edits.proofs.Related.Thinning.{over_of_put, no_subtree_pairs}
 use Rattle.blart_map.proofs.map.TreeMap.prefix_insert.Goals as goal
 
 pub swap-requires : goal.swap-requires

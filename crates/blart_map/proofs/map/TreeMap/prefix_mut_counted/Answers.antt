@@ -1,7 +1,7 @@
 use Rattle.std.proofs.Common.{◌∙◌, ap, sym}
 use Rattle.blart_keys.specs.Bytes.{begins}
 use Rattle.art_tree.specs.Pairs.{pairs_of}
-use Rattle.art_insert.proofs.Numbers.{no_pairs}
+use Rattle.art_edits.proofs.Numbers.{no_pairs}
 use Rattle.blart_map.specs.Content.{pairs}
 use Rattle.blart_map.proofs.Passed.Walking.{longest_pairs}
 use Rattle.blart_map.proofs.Written.OnceWritten.{opened_written}

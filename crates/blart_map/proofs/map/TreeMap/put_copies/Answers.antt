@@ -4,7 +4,7 @@ use Rattle.blart_keys.specs.Bulk.{PutsAll}
 use Rattle.blart_keys.specs.Steps.{bytes}
 use Rattle.blart_keys.specs.Stored.{kept_pair}
 use Rattle.blart_map.specs.Content.{pairs}
-use Rattle.art_insert.proofs.Moved.BulkPuts.{puts_more}
+use Rattle.art_edits.proofs.Moved.BulkPuts.{puts_more}
 use Rattle.blart_map.proofs.map.TreeMap.put_copies.Goals as goal
 
 pub loop-item-preserved : goal.loop-item-preserved

@@ -3,7 +3,7 @@ use Rattle.blart_keys.specs.Bulk.{PutsAll}
 use Rattle.blart_keys.specs.Steps.{bytes}
 use Rattle.blart_keys.specs.Stored.{kept_pair}
 use Rattle.blart_map.specs.Content.{pairs}
-use Rattle.art_insert.proofs.Moved.BulkPuts.{first_came}
+use Rattle.art_edits.proofs.Moved.BulkPuts.{first_came}
 use Rattle.blart_map.proofs.map.TreeMap.put_in_turn.Goals as goal
 
 pub returns-in-Err-clause-refused : goal.returns-in-Err-clause-refused

@@ -5,7 +5,7 @@ use Rattle.blart_keys.proofs.Mapped.{filter-map}
 use Rattle.blart_keys.proofs.StoredLemmas.{can_count_filter}
 use Rattle.art_tree.specs.Pairs.{pairs_of}
 use Rattle.blart_map.specs.Content.{pairs}
-use Rattle.art_insert.proofs.Numbers.{no_pairs}
+use Rattle.art_edits.proofs.Numbers.{no_pairs}
 use Rattle.blart_map.proofs.Passed.Walking.{longest_pairs}
 use Rattle.blart_map.proofs.map.TreeMap.range_counted.Goals as goal
 

@@ -6,7 +6,7 @@ use Rattle.blart_keys.specs.Stored.{pair_at, pair_at_front, Updates, has}
 use Rattle.blart_keys.proofs.StoredLemmas.{updates_without, len_without, pair_at_bytes, routes_without}
 use Rattle.art_tree.specs.Pairs.{pairs_of}
 use Rattle.blart_map.specs.Content.{pairs}
-use Rattle.art_insert.proofs.Numbers.{whole_pairs, found_pairs, without_pairs}
+use Rattle.art_edits.proofs.Numbers.{whole_pairs, found_pairs, without_pairs}
 use Rattle.blart_map.proofs.map.TreeMap.remove_entry.Goals as goal
 
 -- a pair that is found at the bytes q has these bytes

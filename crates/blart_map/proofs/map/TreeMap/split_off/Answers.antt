@@ -4,7 +4,7 @@ use Rattle.blart_keys.specs.Steps.{bytes}
 use Rattle.blart_keys.specs.Stored.{pair_at}
 use Rattle.art_tree.specs.Pairs.{pairs_of}
 use Rattle.blart_map.specs.Content.{pairs}
-use Rattle.art_insert.proofs.Moved.Parting.{parted, part_lengths, from_short, kept_at, given_at}
+use Rattle.art_edits.proofs.Moved.Parting.{parted, part_lengths, from_short, kept_at, given_at}
 use Rattle.blart_map.proofs.map.TreeMap.split_off.Goals as goal
 
 pub part-requires : goal.part-requires

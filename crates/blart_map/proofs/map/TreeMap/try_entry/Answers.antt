@@ -1,8 +1,8 @@
 use Rattle.std.proofs.Common.{refl, sym, ap, ◌∙◌, not}
 use Rattle.blart_keys.specs.Stored.{overlaps}
 use Rattle.blart_map.specs.Content.{pairs}
-use Rattle.art_insert.proofs.Placed.Inserting.{conflict_pairs, exact_has, opens}
-use Rattle.art_insert.proofs.Related.EntryOf.{exact_bytes, exact_pair, exact_kind, exact_free, exact_some, open_absent, open_free, open_found, open_pair, open_kind}
+use Rattle.art_edits.proofs.Placed.Inserting.{conflict_pairs, exact_has, opens}
+use Rattle.art_edits.proofs.Related.EntryOf.{exact_bytes, exact_pair, exact_kind, exact_free, exact_some, open_absent, open_free, open_found, open_pair, open_kind}
 use Rattle.blart_map.proofs.map.TreeMap.try_entry.Goals as goal
 
 pub invariant_of-result : goal.invariant_of-result

@@ -1,6 +1,6 @@
 use Rattle.std.proofs.Common.{refl}
 use Rattle.blart_map.specs.Content.{pairs}
-use Rattle.art_insert.proofs.Placed.Setting.{occupied_set}
+use Rattle.art_edits.proofs.Placed.Setting.{occupied_set}
 use Rattle.blart_map.proofs.occupied.OccupiedEntry+K+V+PREFIX_LEN+TreeMap+K+V+PREFIX_LEN.into_mut.Goals as goal
 
 pub returns : goal.returns

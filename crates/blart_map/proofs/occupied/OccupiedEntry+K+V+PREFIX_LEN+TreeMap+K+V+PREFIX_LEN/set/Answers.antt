@@ -1,7 +1,7 @@
 use Rattle.std.proofs.Common.{refl}
 use Rattle.blart_map.specs.Content.{pairs}
 use Rattle.blart_map.specs.OccupiedEntry.{Has-with_value}
-use Rattle.art_insert.proofs.Placed.Setting.{occupied_set, bytes_written, pair_written}
+use Rattle.art_edits.proofs.Placed.Setting.{occupied_set, bytes_written, pair_written}
 use Rattle.blart_map.proofs.occupied.OccupiedEntry+K+V+PREFIX_LEN+TreeMap+K+V+PREFIX_LEN.set.Goals as goal
 
 pub invariant_of-result : goal.invariant_of-result

@@ -2,7 +2,7 @@ use Rattle.std.proofs.Common.{refl, ap, true}
 use mathlib.Core.Bool.{Bool-set}
 use Rattle.blart_map.specs.Content.{pairs}
 use Rattle.blart_map.specs.OccupiedEntry.{Has-with_value, with_entry_value}
-use Rattle.art_insert.proofs.Placed.Setting.{occupied_set, bytes_written, pair_written}
+use Rattle.art_edits.proofs.Placed.Setting.{occupied_set, bytes_written, pair_written}
 use Rattle.blart_map.proofs.occupied.OccupiedEntry.get_mut.Goals as goal
 
 pub invariant_of-self-lent : goal.invariant_of-self-lent

@@ -1,5 +1,5 @@
 use Rattle.blart_map.specs.Content.{pairs}
-use Rattle.art_insert.proofs.Placed.Setting.{occupied_removed}
+use Rattle.art_edits.proofs.Placed.Setting.{occupied_removed}
 use Rattle.blart_map.proofs.occupied.OccupiedEntry.remove_entry.Goals as goal
 
 pub returns-clause-rest : goal.returns-clause-rest

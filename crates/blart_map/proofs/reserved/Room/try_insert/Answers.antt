@@ -1,5 +1,5 @@
 use Rattle.blart_map.specs.Content.{pairs}
-use Rattle.art_insert.proofs.Placed.Tried.{tried_old, tried_updates, tried_len, tried_routes, tried_free, tried_why}
+use Rattle.art_edits.proofs.Placed.Tried.{tried_old, tried_updates, tried_len, tried_routes, tried_free, tried_why}
 use Rattle.blart_map.proofs.reserved.Room.try_insert.Goals as goal
 
 pub returns-clause-old : goal.returns-clause-old

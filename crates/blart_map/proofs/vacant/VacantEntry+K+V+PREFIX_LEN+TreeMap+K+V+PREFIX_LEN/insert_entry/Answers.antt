@@ -4,8 +4,8 @@ use Rattle.std.specs.Prelude.{[]}
 use Rattle.blart_keys.proofs.Options.{is_some}
 use Rattle.art_tree.specs.Leaves.{leaf_in}
 use Rattle.blart_map.specs.Content.{pairs}
-use Rattle.art_insert.proofs.Placed.Setting.{placed_entry_set}
-use Rattle.art_insert.proofs.Placed.TakenBack.{taken_back_at}
+use Rattle.art_edits.proofs.Placed.Setting.{placed_entry_set}
+use Rattle.art_edits.proofs.Placed.TakenBack.{taken_back_at}
 use Rattle.blart_map.proofs.vacant.VacantEntry+K+V+PREFIX_LEN+TreeMap+K+V+PREFIX_LEN.insert_entry.Goals as goal
 
 pub invariant_of-result : goal.invariant_of-result

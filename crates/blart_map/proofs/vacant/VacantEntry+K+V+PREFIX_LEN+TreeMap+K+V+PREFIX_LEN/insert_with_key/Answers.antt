@@ -1,7 +1,7 @@
 use Rattle.std.proofs.Common.{refl, subst, sym, ap, ◌∙◌, ◌≡◌, Some, option_map}
 use Rattle.std.specs.Fn.{FnOnceReturnsAt}
 use Rattle.blart_map.specs.Content.{pairs}
-use Rattle.art_insert.proofs.Placed.Setting.{placed_set}
+use Rattle.art_edits.proofs.Placed.Setting.{placed_set}
 use Rattle.blart_map.proofs.vacant.VacantEntry+K+V+PREFIX_LEN+TreeMap+K+V+PREFIX_LEN.insert_with_key.Goals as goal
 
 pub returns : goal.returns
