@@ -316,6 +316,10 @@ module _ {P : ℕ} (keys : ℕ → Option Bytes) (nodes : ℕ → Option Node) (
   covers_above None c l = subst (λ (r : Option Child). RootFits keys nodes s.front_of r) l s.top
   covers_above (Some e) c l = (s.node e.0 l.0 l.1).below e.1 c l.2
 
+  -- the same for an equal child
+  pub covers_led : (above : Option (ℕ × ℕ)) {a c : Child} → a ≡ c → LeadsTo nodes root above a → Covers keys nodes s.front_of (edge_front s.front_of above) c
+  covers_led above {a} e l = subst (λ (z : Child). Covers keys nodes s.front_of (edge_front s.front_of above) z) e (covers_above above a l)
+
   -- each child covers some key
   pub some_key : (g : Bytes) (c : Child) → Covers keys nodes s.front_of g c → (j : ℕ) × (l : Bytes) × (keys j ≡ Some l) × Begins g l
   some_key g c covers = key_below keys nodes s.front_of s.node g c covers

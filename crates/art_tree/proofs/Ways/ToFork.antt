@@ -5,27 +5,20 @@ use Rattle.blart_keys.proofs.Options.{not_some}
 use Rattle.art_tree.specs.Begins.{Bytes, Begins, next_byte}
 use Rattle.art_kinds.specs.Nodes.{Node}
 use Rattle.art_kinds.specs.Edges.{child_at}
-use Rattle.art_tree.specs.Invariant.Shape.{Shape, Covers, CoversNode, NodeFits}
+use Rattle.art_tree.specs.Invariant.Shape.{Shape, NodeFits}
 use Rattle.art_tree.specs.Invariant.EdgesAbove.{LeadsTo, edge_front}
 use Rattle.art_tree.specs.Calls.Forks.{EdgeFits}
 use Rattle.art_kinds.specs.declared.records.ids.Child.{Child}
 use Rattle.art_kinds.specs.declared.records.ids.Child.TheVariants.{Inner}
+use Rattle.art_tree.proofs.Invariant.Growing.{covers_led}
 use Rattle.art_tree.proofs.BeginsLemmas.{Begins-take, Begins-more, Begins-trans, Begins-linear, Begins-equal}
 
--- a descent by the nearest key's first `depth` bytes has reached a child by the edge above
-pub record Follows (keys : ℕ → Option Bytes) (nodes : ℕ → Option Node) (front_of : ℕ → Bytes) (nearest : Bytes) (depth : ℕ) (above : Option (ℕ × ℕ)) (c : Child) : Type 0 where
-  pub covers : Covers keys nodes front_of (edge_front front_of above) c
-  pub along : Begins (edge_front front_of above) (take depth nearest)
-
+-- a descent by the nearest key's first `depth` bytes, which has reached a node by the edge above
 module _ {P : ℕ} {keys : ℕ → Option Bytes} {nodes : ℕ → Option Node} (nearest : Bytes) (depth : ℕ) {root : Option Child} (s : Shape P keys nodes root) (above : Option (ℕ × ℕ)) where
-  -- the edge above is on the way of the nearest key
-  pub followed_edge : {a c : Child} → a ≡ c → LeadsTo nodes root above a → Follows keys nodes s.front_of nearest depth above a → EdgeFits nodes root s.front_of nearest depth above c
-  followed_edge e leads w = subst (λ (z : Child). EdgeFits nodes root s.front_of nearest depth above z) e (record { leads = leads; along = w.along })
-
-  module _ {a : Child} {n : ℕ} (named : a ≡ Inner n) (w : Follows keys nodes s.front_of nearest depth above a) where
-    -- the node that was reached
-    pub reached : CoversNode keys nodes s.front_of (edge_front s.front_of above) n
-    reached = subst (λ (z : Child). Covers keys nodes s.front_of (edge_front s.front_of above) z) named w.covers
+  module _ {a : Child} {n : ℕ} (named : a ≡ Inner n) (leads : LeadsTo nodes root above a) (along : Begins (edge_front s.front_of above) (take depth nearest)) where
+    -- the edge leads to the node
+    pub edge_fits : EdgeFits nodes root s.front_of nearest depth above (Inner n)
+    edge_fits = record { leads = subst (λ (z : Child). LeadsTo nodes root above z) named leads; along = along }
 
     module _ (within : depth ≤ length nearest) {i : ℕ} (is : keys i ≡ Some nearest) {x : Node} (at : nodes n ≡ Some x) where
       fits : NodeFits keys nodes s.front_of (s.front_of n) x
@@ -33,7 +26,7 @@ module _ {P : ℕ} {keys : ℕ → Option Bytes} {nodes : ℕ → Option Node} (
 
       -- the nearest key is below the node
       front_nearest : Begins (s.front_of n) nearest
-      front_nearest = reached.only i nearest is (Begins-trans (edge_front s.front_of above) (take depth nearest) nearest w.along (Begins-take depth nearest))
+      front_nearest = (covers_led keys nodes root s above named leads).only i nearest is (Begins-trans (edge_front s.front_of above) (take depth nearest) nearest along (Begins-take depth nearest))
 
       -- the descent passes no more than `depth` bytes
       long : length (take depth nearest) ≡ depth
@@ -56,14 +49,11 @@ module _ {P : ℕ} {keys : ℕ → Option Bytes} {nodes : ℕ → Option Node} (
           not_some (child_at x.edges (next_byte (s.front_of n) nearest)) (ap (λ (z : ℕ). child_at x.edges (get_or nearest z 0)) (sym (d ∙ fits.depth)) ∙ none) (fits.edge i nearest is front_nearest)
 
       -- the descent continues along it, while the fork is deeper
-      pub follow_on : {len : ℕ} → len ≡ x.depth → len < depth → {child : Child} → child_at x.edges (get_or nearest len 0) ≡ Some child → Follows keys nodes s.front_of nearest depth (Some (n, get_or nearest len 0)) child
-      follow_on {len} d h {child} there =
+      pub follow_on : {len : ℕ} → len ≡ x.depth → len < depth → Begins (s.front_of n ++ get_or nearest len 0 ∷ []) (take depth nearest)
+      follow_on d h =
           let g : Bytes = s.front_of n in
           let l : length (take depth nearest) ≡ depth = long in
           let m : x.depth ≡ length g = fits.depth in
           let e : length (g ++ next_byte g nearest ∷ []) ≡ length g + 1 = length-append g (next_byte g nearest ∷ []) in
-          let along : Begins (g ++ next_byte g nearest ∷ []) (take depth nearest) = Begins-linear (g ++ next_byte g nearest ∷ []) (take depth nearest) nearest (Begins-more g nearest front_nearest (omega arith)) (Begins-take depth nearest) (omega arith) in
-          record {
-            covers = fits.below (get_or nearest len 0) child there;
-            along = subst (λ (z : ℕ). Begins (g ++ get_or nearest z 0 ∷ []) (take depth nearest)) (sym (d ∙ fits.depth)) along;
-          }
+          subst (λ (z : ℕ). Begins (g ++ get_or nearest z 0 ∷ []) (take depth nearest)) (sym (d ∙ fits.depth))
+          (Begins-linear (g ++ next_byte g nearest ∷ []) (take depth nearest) nearest (Begins-more g nearest front_nearest (omega arith)) (Begins-take depth nearest) (omega arith))

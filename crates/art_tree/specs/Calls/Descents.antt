@@ -83,6 +83,11 @@ module _ (keys : ℕ → Option Bytes) (q : Bytes) where
     pub is : keys i ≡ Some key
     pub only : (j : ℕ) (k : Bytes) → keys j ≡ Some k → Begins k q → j ≡ i
 
+  -- no key is a prefix of q, or only the leaf's key may be
+  abbrev pub IsAloneAt : Option ℕ → Type 0
+  IsAloneAt None = NoFront
+  IsAloneAt (Some i) = IsOnlyFront i
+
   -- the result of a descent by the bytes of q: the only leaf whose key may be a prefix, or none
   abbrev pub GoesTo : ℕ → ℕ → Option ℕ → Type 0
   GoesTo old new None = NoFront × (new ≤ old + length q + 1)

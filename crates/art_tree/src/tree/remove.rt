@@ -71,9 +71,8 @@ fn path_at<K: AsBytes, V, const P: usize>(
         (λ s. IsLeafPath (at skeleton.now.nodes) skeleton.now.root s.0) }
 {
     leaves.law();
-    let mut visits = Visits::new();
     let (nodes, root) = (&skeleton.nodes, &skeleton.root);
-    let Some((path, key, _)) = pair_toward(leaves, nodes, root, query, &mut visits) else {
+    let Some((path, key, _)) = pair_toward(leaves, nodes, root, query) else {
         return None;
     };
     let seen = leaves.position_of(path.id);
@@ -95,10 +94,9 @@ fn path_of<K: AsBytes, V, const P: usize>(
     ensures same { result.id ≡ id.now }
     ensures path { IsLeafPath (at skeleton.now.nodes) skeleton.now.root result }
 {
-    let mut visits = Visits::new();
-    let (key, _) = leaves.read(*id, &mut visits);
+    let (key, _) = leaves.read(*id, &mut Visits::new());
     let (nodes, root) = (&skeleton.nodes, &skeleton.root);
-    match pair_toward(leaves, nodes, root, key.as_bytes(), &mut visits) {
+    match pair_toward(leaves, nodes, root, key.as_bytes()) {
         Some(found) => found.0,
         None => unreachable!(),
     }

@@ -2,7 +2,7 @@
 ghost use Rattle.std.specs.Prelude.{◌≡◌, ◌+◌, ◌<◌, ◌≤◌, ℕ, [], length, option_map, Option, Some, IfSome};
 ghost use Rattle.blart_keys.specs.Content.{at, front_of};
 ghost use Rattle.art_tree.specs.Begins.{Bytes};
-ghost use Rattle.art_tree.specs.Calls.Descents.{IsRoot, GoesTo, IsFrontAlone};
+ghost use Rattle.art_tree.specs.Calls.Descents.{IsRoot, IsAloneAt, GoesTo, IsFrontAlone};
 ghost use Rattle.art_tree.specs.Calls.Forks.{IsLeafPath};
 ghost use Rattle.art_tree.specs.Leaves.{Has, bytes};
 ghost use Rattle.art_kinds.specs.Nodes.{at as nodes_at};
@@ -169,37 +169,27 @@ pub(crate) fn pair_toward<'a, K: AsBytes, V, const P: usize>(
     nodes: &Nodes<P>,
     root: &Option<Child>,
     query: &[u8],
-    visits: &mut Visits,
 ) -> Option<(LeafPath, &'a K, &'a V)>
     requires { IsSound K.bytes P leaves.now nodes.now root.now }
     ensures found { IsFrontAlone K.bytes leaves.now.pairs query.now
         (option_map (λ f. (f.0.id, (f.1.now, f.2.now))) result) }
     ensures path { IfSome result (λ f. IsLeafPath (nodes_at nodes.now) root.now f.0) }
-    ensures counted { visits.new.count ≤ visits.old.count + length query.now + 1 }
-    ensures grows { visits.old.count ≤ visits.new.count }
-    ensures empty { leaves.now.pairs ≡ [] → visits.new.count ≡ visits.old.count }
 {
     let Some(root) = root else {
         return None;
     };
-    let path = leaf_toward(nodes, root, query, visits)?;
-    let (key, value) = leaves.read(path.id, visits);
+    let path = leaf_toward(nodes, root, query)?;
+    let (key, value) = leaves.read(path.id, &mut Visits::new());
     Some((path, key, value))
 }
 
 /// Returns the path of the only leaf whose key may be a prefix of the query, or `None` if no key
 /// is.
-fn leaf_toward<const P: usize>(
-    nodes: &Nodes<P>,
-    root: &Child,
-    query: &[u8],
-    visits: &mut Visits,
-) -> Option<LeafPath>
+fn leaf_toward<const P: usize>(nodes: &Nodes<P>, root: &Child, query: &[u8]) -> Option<LeafPath>
     requires { IsRoot P (nodes_at nodes.now) root.now }
     ensures goes { (keys : ℕ → Option Bytes) → Shape P keys (nodes_at nodes.now) (Some root.now)
-        → GoesTo keys query.now visits.old.count visits.new.count (option_map (λ s. s.id) result) }
+        → IsAloneAt keys query.now (option_map (λ s. s.id) result) }
     ensures path { IfSome result (IsLeafPath (nodes_at nodes.now) (Some root.now)) }
-    ensures grows { visits.old.count ≤ visits.new.count }
 {
     let mut at = *root;
     let mut edge = None;
@@ -209,7 +199,7 @@ fn leaf_toward<const P: usize>(
             Child::Leaf(id) => return Some(LeafPath { id, edge, above }),
             Child::Inner(id) => id,
         };
-        let node = nodes.read(id, visits);
+        let node = nodes.read(id, &mut Visits::new());
         let depth = node.depth();
         if depth >= query.len() {
             return None;

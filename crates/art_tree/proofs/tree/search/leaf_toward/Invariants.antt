@@ -1,20 +1,18 @@
-use Rattle.std.proofs.Common.{ℕ, ◌≤◌, [], Option, Some}
+use Rattle.std.proofs.Common.{ℕ, Option, Some}
 use Rattle.art_tree.specs.Begins.{Bytes}
 use Rattle.art_kinds.specs.Nodes.{at}
-use Rattle.art_tree.specs.Invariant.EdgesAbove.{LeadsTo}
+use Rattle.art_tree.specs.Invariant.EdgesAbove.{LeadsTo, edge_front}
 use Rattle.art_tree.specs.Invariant.Shape.{Shape}
 use Rattle.art_tree.specs.Calls.Forks.{LeadsToNodeOf}
 use Rattle.art_tree.proofs.Ways.Depths.{rank}
 use Rattle.art_tree.proofs.Ways.ToQuery.{HoldsFronts}
-use Rattle.art_tree.proofs.Ways.WaysDown.{WayDown}
 use Rattle.art_tree.proofs.tree.search.leaf_toward.Given as goal
 
 abbrev pub invariant-down : goal.invariant-down
 invariant-down g l = record {
-  way : (keys : ℕ → Option Bytes) (s : Shape g.row.P keys (at l.nodes) (Some l.fn.root)) → WayDown keys (at l.nodes) s.front_of (HoldsFronts keys l.query) [] l.at l.initial.visits.count l.visits.count;
+  holds : (keys : ℕ → Option Bytes) (s : Shape g.row.P keys (at l.nodes) (Some l.fn.root)) → HoldsFronts keys l.query (edge_front s.front_of l.edge);
   leads : LeadsTo (at l.nodes) (Some l.fn.root) l.edge l.at;
   above : LeadsToNodeOf (at l.nodes) (Some l.fn.root) l.above l.edge;
-  rising : l.initial.visits.count ≤ l.visits.count;
 }
 
 abbrev pub decreases-down : goal.decreases-down

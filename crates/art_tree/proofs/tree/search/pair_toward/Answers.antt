@@ -1,4 +1,4 @@
-use Rattle.std.proofs.Common.{lit<, arith}
+use Rattle.std.proofs.Common.{lit<}
 use Rattle.art_tree.specs.Leaves.{keys_in}
 use Rattle.art_kinds.specs.Nodes.{at}
 use Rattle.art_tree.proofs.Invariant.SameShapes.{rooted}
@@ -15,21 +15,7 @@ leaf_toward-requires g c =
     (lit< tt, is_root (rooted c.requires.shape c.in-Some.is))
 
 pub returns-in_err-path-clause-found : goal.returns-in_err-path-clause-found
-returns-in_err-path-clause-found g c =
-    let s = rooted c.requires.shape c.in-Some.is in
-    rw c.from_residual.ensures ((c.in_err-path.ensures.goes _ s).0)
-
-pub returns-in_err-path-clause-counted : goal.returns-in_err-path-clause-counted
-returns-in_err-path-clause-counted g c =
-    let s = rooted c.requires.shape c.in-Some.is in
-    (c.in_err-path.ensures.goes _ s).1
+returns-in_err-path-clause-found g c = rw c.from_residual.ensures (c.in_err-path.ensures.goes _ (rooted c.requires.shape c.in-Some.is))
 
 pub read-requires : goal.read-requires
-read-requires g c =
-    let s = rooted c.requires.shape c.in-Some.is in
-    only_has g.K.AsBytes.bytes c.args.leaves.now.pairs c.args.query.now c.in_ok-path.path.id ((c.in_ok-path.ensures.goes _ s).0)
-
-pub returns-clause-counted : goal.returns-clause-counted
-returns-clause-counted g c =
-    let s = rooted c.requires.shape c.in-Some.is in
-    omega (arith, (c.in_ok-path.ensures.goes _ s).1, c.read.ensures.counted)
+read-requires g c = only_has g.K.AsBytes.bytes c.args.leaves.now.pairs c.args.query.now c.in_ok-path.path.id (c.in_ok-path.ensures.goes _ (rooted c.requires.shape c.in-Some.is))
