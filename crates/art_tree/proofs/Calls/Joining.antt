@@ -1,4 +1,4 @@
--- A leaf joins the tree at a node, or at an edge.
+-- A leaf is added at a node, or at an edge.
 use Rattle.std.proofs.Common.{◌≡◌, ℕ, ◌+◌, ◌%◌, ◌<◌, ◌≤◌, List, [], ◌∷◌, ◌++◌, length, take, slice_range, get_or, refl, ap, arith, sym, subst, Option, Some, None, ◌∙◌, eqb, eq-eqb, true, inl, inr, length-append}
 use Rattle.std.specs.Option.{IsSomeAnd}
 use Rattle.std.proofs.lemmas.Bool.{cases_eq}
@@ -43,7 +43,7 @@ module _ {P : ℕ} (keys : ℕ → Option Bytes) (nodes : ℕ → Option Node) (
       (x.0, x.1, omega arith, omega arith)
 
 module _ (keys : ℕ → Option Bytes) (leaf depth : ℕ) (q : Bytes) (good : LeavesNearest keys leaf depth q) (m : Bytes) (m_is : keys leaf ≡ Some m) where
-  -- if a key leaves the others at a node, the node, also once moved, has no edge at the key's byte
+  -- if a key parts from the others at a node, the node has no edge at the key's byte, once moved too
   pub wide_absent : {P : ℕ} → (nodes mid wide : ℕ → Option Node) (root root' : Option Child) (n n' : ℕ) (above : Option (ℕ × ℕ)) (s : Shape P keys nodes root) → s.front_of n ≡ take depth m
       → Renames nodes mid n n' → LeadsTo nodes root above (Inner n) → TurnsTo mid wide root root' above (Inner n') → IsSomeAnd (wide n') (λ x. child_at x.edges (get_or q depth 0) ≡ None)
   wide_absent nodes mid wide root root' n n' above s stands ren leads turns =

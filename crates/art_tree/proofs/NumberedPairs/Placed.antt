@@ -134,7 +134,7 @@ module _ {P : ℕ} {keys : ℕ → Option Bytes} {nodes : ℕ → Option Node} {
     pub near_rest : new.rest nearest ≡ Some m
     near_rest = sym (new.gains.others nearest another) ∙ near
 
-    -- the new key leaves the nearest key at this depth
+    -- the new key parts from the nearest key at this depth
     pub leaves_near : LeavesNearest new.rest nearest depth k
     leaves_near = subst (λ (k : Bytes). LeavesNearest new.rest nearest depth k) own_key new.leaves
 

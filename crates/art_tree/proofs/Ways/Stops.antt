@@ -125,7 +125,7 @@ module _ {P : ℕ} (keys : ℕ → Option Bytes) (nodes : ℕ → Option Node) (
                 ]
           ])
 
-      -- q leaves the keys before f ends
+      -- q parts from the keys before f ends
       pub leaves_edge : (byte : ℕ) → byte ≡ get_or f (length (common f q)) 0 → (l : LeavesAtEdge P keys nodes c byte (get_or q (length (common f q)) 0) q) × (length (common f q) ≡ length l.t)
       leaves_edge byte e = (
         record {
@@ -199,7 +199,7 @@ module _ {P : ℕ} {keys : ℕ → Option Bytes} {nodes : ℕ → Option Node} {
           longer = omega arith;
         }
 
-    -- q leaves the keys above the node
+    -- q parts from the keys above the node
     pub leaves_above : {x : Node} → nodes n ≡ Some x → {len byte : ℕ} → IsShared front q len byte → {depth : ℕ} → depth ≡ x.depth → len < depth → len ≢ length q → (l : LeavesAtEdge P keys nodes (Inner n) byte (get_or q len 0) q) × (len ≡ length l.t) × (len < length q)
     leaves_above {x} x_is {len} {byte} h depth_is lx nq =
         let d : x.depth ≡ length front = (w.shape.node n x x_is).depth in
@@ -271,7 +271,7 @@ module _ {P : ℕ} {keys : ℕ → Option Bytes} {nodes : ℕ → Option Node} {
                   none_on j k k_is fk (Begins-next front k (next_byte front q) e)
             ])
 
-        -- or the node has no edge at q's next byte, and q leaves the keys there
+        -- or the node has no edge at q's next byte, and q parts from the keys there
         pub leaves_here : (l : LeavesAtNode P keys nodes n (get_or q x.depth 0) q) × (x.depth ≡ length (l.apart.shape.front_of n)) × (x.depth < length q)
         leaves_here = (
           record {
