@@ -113,23 +113,6 @@ filled-drops t u n b same f a =
     let l : length (edges_of u) + 1 ≡ length (edges_of t) = a.shorter in
     (omega (arith, length-edges t 0, length-edges u 0), record { wide = omega arith; counted = omega (arith, length-edges t 0, length-edges u 0) })
 
--- a child found after bytes with no child is the first from the byte on
-pub from-some : (t : List (Option Child)) (b i : ℕ) (to : Child) → b ≤ i → get_or t i None ≡ Some to → ((c : ℕ) → b ≤ c → c < i → get_or t c None ≡ None) → IsFrom (edges_of t) b (Some (record { byte = i; to = to }))
-from-some t b i to l is none = (l, child_at-edges t i ∙ is, λ c lo hi. child_at-edges t c ∙ none c lo hi)
-
-pub from-none : (t : List (Option Child)) (b : ℕ) → ((c : ℕ) → b ≤ c → c < length t → get_or t c None ≡ None) → IsFrom (edges_of t) b None
-from-none t b none c lo =
-    elim (leb_tells (suc c) (length t)) [
-      | inl p ↦ child_at-edges t c ∙ none c lo p.1
-      | inr p ↦ (let q : length t < suc c = p.1 in child_at-edges t c ∙ get_or_past t c None (omega arith))
-    ]
-
-pub below-some : (t : List (Option Child)) (b i : ℕ) (to : Child) → i < b → get_or t i None ≡ Some to → ((c : ℕ) → i < c → c < b → get_or t c None ≡ None) → IsPrevious (edges_of t) b (Some (record { byte = i; to = to }))
-below-some t b i to l is none = (l, child_at-edges t i ∙ is, λ c lo hi. child_at-edges t c ∙ none c lo hi)
-
-pub below-none : (t : List (Option Child)) (b : ℕ) → ((c : ℕ) → c < b → get_or t c None ≡ None) → IsPrevious (edges_of t) b None
-below-none t b none c hi = child_at-edges t c ∙ none c hi
-
 -- the first edge from the next byte on is the edge after a byte
 pub next-of-from : (es : List Edge) (b : ℕ) (o : Option Edge) → IsFrom es (b + 1) o → IsNext es b o
 next-of-from es b None h = λ c l. h c (omega arith)

@@ -37,17 +37,6 @@ impl<const N: usize> Model for Few<N> {
 }
 
 impl<const N: usize> Few<N> {
-    /// Returns the child of the edge at a byte, if there is one.
-    pub(crate) fn find(&self, byte: u8) -> Option<Child>
-        ensures { result ≡ child_at self.now byte }
-    {
-        find_in(
-            &self.bytes[..self.count as usize],
-            &self.children[..self.count as usize],
-            byte,
-        )
-    }
-
     /// Returns the edge at an end: the one with the least byte, or the one with the greatest.
     pub(crate) fn end_edge(&self, end: End) -> Edge
         requires { 0 < length self.now }
@@ -120,6 +109,14 @@ impl<const N: usize> Children for Few<N> {
     fn count(&self) -> usize {
         let _children: &[Link; N] = &self.children;
         self.count as usize
+    }
+
+    fn find(&self, byte: u8) -> Option<Child> {
+        find_in(
+            &self.bytes[..self.count as usize],
+            &self.children[..self.count as usize],
+            byte,
+        )
     }
 
     fn insert(&mut self, byte: u8, to: Child) {

@@ -1,11 +1,11 @@
 //! A node with an index of its children by byte.
-ghost use Rattle.std.specs.Prelude.{ℕ, ◌≡◌, ◌<◌, ◌≤◌, length, Some, None, slice_index_or};
-ghost use Rattle.art_kinds.specs.Edges.{child_at, IsFrom, IsNext, IsPrevious, is_first, IsEnd, moved};
+ghost use Rattle.std.specs.Prelude.{ℕ, ◌≡◌, ◌<◌, ◌≤◌, length, Some, slice_index_or};
+ghost use Rattle.art_kinds.specs.Edges.{moved};
 
 use crate::records::children::Children;
 use crate::records::few::Few;
 use crate::records::full::Full;
-use crate::records::ids::{Child, Edge, End};
+use crate::records::ids::Child;
 use crate::records::link::Link;
 use std::marker::Model;
 
@@ -72,84 +72,6 @@ impl Indexed {
         }
         edges
     }
-
-    /// Returns the child of the edge at a byte, if there is one.
-    pub(crate) fn find(&self, byte: u8) -> Option<Child>
-        ensures { result ≡ child_at self.now byte }
-    {
-        let place = self.index[byte as usize];
-        if place < 48 {
-            Some(self.children[place as usize].child())
-        } else {
-            None
-        }
-    }
-
-    /// Returns the edge with the least byte that is not less than `start`, if there is one.
-    fn edge_from(&self, start: usize) -> Option<Edge>
-        requires { start ≤ 256 }
-        ensures { IsFrom self.now start result }
-    {
-        for next in start..256 {
-            let place = self.index[next];
-            if place < 48 {
-                return Some(Edge {
-                    byte: next as u8,
-                    to: self.children[place as usize].child(),
-                });
-            }
-        }
-        None
-    }
-
-    /// Returns the edge with the greatest byte less than `end`, if there is one.
-    fn edge_below(&self, end: usize) -> Option<Edge>
-        requires { end ≤ 256 }
-        ensures found { IsPrevious self.now end result }
-        ensures bytes { (c : ℕ) → 256 ≤ c → child_at self.now c ≡ None }
-    {
-        let mut next = end;
-        while next > 0 {
-            next -= 1;
-            let place = self.index[next];
-            if place < 48 {
-                return Some(Edge {
-                    byte: next as u8,
-                    to: self.children[place as usize].child(),
-                });
-            }
-        }
-        None
-    }
-
-    /// Returns the edge at an end: the one with the least byte, or the one with the greatest.
-    pub(crate) fn end_edge(&self, end: End) -> Edge
-        requires { 0 < length self.now }
-        ensures { IsEnd (is_first end) self.now result }
-    {
-        let found = match end {
-            End::First => self.edge_from(0),
-            End::Last => self.edge_below(256),
-        };
-        match found {
-            Some(edge) => edge,
-            None => unreachable!(),
-        }
-    }
-
-    /// Returns the edge with the least byte greater than `byte`, if there is one.
-    pub(crate) fn edge_after(&self, byte: u8) -> Option<Edge>
-        ensures { IsNext self.now byte result }
-    {
-        self.edge_from(byte as usize + 1)
-    }
-
-    /// Returns the edge with the greatest byte less than `byte`, if there is one.
-    pub(crate) fn edge_before(&self, byte: u8) -> Option<Edge>
-        ensures { IsPrevious self.now byte result }
-    {
-        self.edge_below(byte as usize)
-    }
 }
 
 impl Children for Indexed {
@@ -167,6 +89,15 @@ impl Children for Indexed {
 
     fn count(&self) -> usize {
         self.count
+    }
+
+    fn find(&self, byte: u8) -> Option<Child> {
+        let place = self.index[byte as usize];
+        if place < 48 {
+            Some(self.children[place as usize].child())
+        } else {
+            None
+        }
     }
 
     fn insert(&mut self, byte: u8, to: Child) {

@@ -6,7 +6,7 @@ ghost use Rattle.art_kinds.specs.Narrow.{IsNarrow};
 ghost use Rattle.art_kinds.specs.Refs.{edges_of};
 ghost use Rattle.art_kinds.specs.Nodes.{at, live, room, FitsNew, FitsMore, HasPlace, Lowers, SameNodes, SameSpares, MoreSpares, Makes, Renames, AddsEdgeTo, Redirects, DropsEdge, Reprefixes, JoinsPrefix, CutsPrefix, Frees};
 
-use crate::records::children::Children;
+use crate::records::children::{self, Children};
 use crate::records::few::Few;
 use crate::records::full::Full;
 use crate::records::ids::{Child, Edge, End, Kind, NodeId};
@@ -133,8 +133,8 @@ impl<'a, const P: usize> NodeRef<'a, P> {
         match &self.edges {
             EdgesRef::Four(edges) => edges.end_edge(end),
             EdgesRef::Sixteen(edges) => edges.end_edge(end),
-            EdgesRef::FortyEight(edges) => edges.end_edge(end),
-            EdgesRef::Full(edges) => edges.end_edge(end),
+            EdgesRef::FortyEight(edges) => children::end_edge(*edges, end),
+            EdgesRef::Full(edges) => children::end_edge(*edges, end),
         }
     }
 
@@ -145,8 +145,8 @@ impl<'a, const P: usize> NodeRef<'a, P> {
         match &self.edges {
             EdgesRef::Four(edges) => edges.edge_after(byte),
             EdgesRef::Sixteen(edges) => edges.edge_after(byte),
-            EdgesRef::FortyEight(edges) => edges.edge_after(byte),
-            EdgesRef::Full(edges) => edges.edge_after(byte),
+            EdgesRef::FortyEight(edges) => children::edge_after(*edges, byte),
+            EdgesRef::Full(edges) => children::edge_after(*edges, byte),
         }
     }
 
@@ -157,8 +157,8 @@ impl<'a, const P: usize> NodeRef<'a, P> {
         match &self.edges {
             EdgesRef::Four(edges) => edges.edge_before(byte),
             EdgesRef::Sixteen(edges) => edges.edge_before(byte),
-            EdgesRef::FortyEight(edges) => edges.edge_before(byte),
-            EdgesRef::Full(edges) => edges.edge_before(byte),
+            EdgesRef::FortyEight(edges) => children::edge_before(*edges, byte),
+            EdgesRef::Full(edges) => children::edge_before(*edges, byte),
         }
     }
 }

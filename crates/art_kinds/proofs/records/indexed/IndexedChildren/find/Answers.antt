@@ -2,7 +2,7 @@ use Rattle.std.proofs.Common.{◌≡◌, ◌<◌, length, arith, sym, ap, ◌∙
 use Rattle.std.proofs.lemmas.List.{get_or_default}
 use Rattle.art_kinds.specs.declared.records.ids.Child.TheVariants.{Leaf}
 use Rattle.art_kinds.proofs.Places.{child_at-index, under-some, under-none}
-use Rattle.art_kinds.proofs.records.indexed.Indexed.find.Goals as goal
+use Rattle.art_kinds.proofs.records.indexed.IndexedChildren.find.Goals as goal
 
 pub returns-then-place-lt48 : goal.returns-then-place-lt48
 returns-then-place-lt48 c =

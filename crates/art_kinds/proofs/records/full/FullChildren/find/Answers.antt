@@ -3,7 +3,7 @@ use Rattle.std.proofs.lemmas.List.{get_or_default}
 use Rattle.art_kinds.specs.Edges.{child_at}
 use Rattle.art_kinds.specs.declared.records.ids.Edge.{Edge}
 use Rattle.art_kinds.proofs.Tables.{child_at-edges}
-use Rattle.art_kinds.proofs.records.full.Full.find.Goals as goal
+use Rattle.art_kinds.proofs.records.full.FullChildren.find.Goals as goal
 
 pub returns : goal.returns
 returns c =

@@ -2,7 +2,7 @@ use Rattle.std.proofs.Common.{◌∙◌, List, ap}
 use Rattle.art_kinds.specs.Edges.{child_at}
 use Rattle.art_kinds.specs.declared.records.ids.Edge.{Edge}
 use Rattle.art_kinds.proofs.Pairs.{take-paired}
-use Rattle.art_kinds.proofs.records.few.Few.find.Goals as goal
+use Rattle.art_kinds.proofs.records.few.FewChildren.find.Goals as goal
 
 pub returns : goal.returns
 returns g c =
