@@ -69,10 +69,6 @@ impl<const PREFIX_LEN: usize> Part<ZKey, PREFIX_LEN> {
     }
 }
 
-/// The number of bytes of a prefix that an inner node keeps, in the parts that are not run at each
-/// prefix length.
-const KEPT: usize = 2;
-
 /// The name of a part.
 #[derive(Clone, Copy)]
 enum PartName {
@@ -104,13 +100,13 @@ const NAMES: [(&str, PartName); 9] = [
 #[derive(Drop)]
 pub(crate) enum Session<'a, const PREFIX_LEN: usize> {
     Bytes(Part<Vec<u8>, PREFIX_LEN>),
-    Byte(Part<u8, KEPT>),
+    Byte(Part<u8, PREFIX_LEN>),
     Three(Part<[u8; 3], PREFIX_LEN>),
-    I32(Part<I32Key, KEPT>),
-    U64(Part<U64Key, KEPT>),
-    Zero(Part<ZKey, KEPT>),
+    I32(Part<I32Key, PREFIX_LEN>),
+    U64(Part<U64Key, PREFIX_LEN>),
+    Zero(Part<ZKey, PREFIX_LEN>),
     Tagged(Part<Tagged, PREFIX_LEN>),
-    Counted(CountedMaps<'a, KEPT>),
+    Counted(CountedMaps<'a, PREFIX_LEN>),
     Mounts(Table),
 }
 
