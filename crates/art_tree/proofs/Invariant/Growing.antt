@@ -304,10 +304,10 @@ module _ {P : ℕ} (keys keys' : ℕ → Option Bytes) (nodes nodes' : ℕ → O
 
 -- each child covers some key, if the nodes fit
 pub key_below : (keys : ℕ → Option Bytes) (nodes : ℕ → Option Node) (front_of : ℕ → Bytes) → ((n : ℕ) (x : Node) → nodes n ≡ Some x → NodeFits keys nodes front_of (front_of n) x) → (g : Bytes) (c : Child) → Covers keys nodes front_of g c → (j : ℕ) × (l : Bytes) × (keys j ≡ Some l) × Begins g l
-key_below keys nodes front_of fits g (Leaf j) c = (j, c.key, c.is, c.front)
-key_below keys nodes front_of fits g (Inner m) c =
+key_below keys nodes front_of fit g (Leaf j) c = (j, c.key, c.is, c.front)
+key_below keys nodes front_of fit g (Inner m) c =
     let x = some_of (nodes m) c.live in
-    let r = (fits m x.0 x.1).parts in
+    let r = (fit m x.0 x.1).parts in
     (r.i, r.k, r.k_is, Begins-trans g (front_of m) r.k c.front r.k_front)
 
 module _ {P : ℕ} (keys : ℕ → Option Bytes) (nodes : ℕ → Option Node) (root : Option Child) (s : Shape P keys nodes root) where

@@ -15,7 +15,7 @@ use Rattle.art_kinds.specs.declared.records.ids.Child.TheVariants.{Leaf, Inner}
 use Rattle.art_tree.proofs.BeginsLemmas.{Begins-length, Begins-more, Begins-trans, Begins-next, Begins-linear, Begins-equal, Begins-edge_front, Bytes-cases, common-left, common-greatest, common_comm}
 use Rattle.art_tree.proofs.Invariant.Growing.{Parts-two, Parts-instead, covers_above, top_from}
 use Rattle.art_tree.proofs.Invariant.EdgesAbove.{Turns, turned_node, turned_free, turns_after, leads_live, Hangs, above_cases, came_from, turned_fits}
-use Rattle.art_tree.proofs.Invariant.OneEdge.{one_above}
+use Rattle.art_tree.proofs.Invariant.OneEdge.{same_edge, one_above}
 use Rattle.art_tree.proofs.Invariant.Prefixes.{keeps_changed, live_after, live_before, cut_node, cut_was, cut_leads, turned_prefix, Recut, recut_by}
 use Rattle.art_tree.proofs.Invariant.Subtrees.{above_leaf}
 use Rattle.blart_keys.proofs.Options.{is_some, some_of, not_some, same_some}
@@ -400,7 +400,7 @@ module _ {P : ℕ} (keys keys' : ℕ → Option Bytes) (nodes : ℕ → Option N
           let there : child_at l.0.edges c ≡ Some (Inner j) = l.2 in
           elim (Bytes-cases (s.front_of q ++ c ∷ []) g0) [
             | inl at ↦ kept_up (s.front_of q ++ c ∷ []) j x' (let e : child_at l.0.edges c ≡ Some c1 = w.2.now c at in cc) at is
-            | inr far ↦ kept_stays (Some (q, c)) j x' (w.0, w.1, sym (w.2.rest c far) ∙ there) (λ e. off (let h : (q, c) ≡ (p, b1) = cc in ap (λ (w : ℕ × ℕ). w.0) h)) is
+            | inr far ↦ kept_stays (Some (q, c)) j x' (w.0, w.1, sym (w.2.rest c far) ∙ there) (λ e. off (same_edge (q, c) (p, b1) e).0) is
           ]
 
       -- the tree if the edge above a node with two edges leads to its other child, not to the node

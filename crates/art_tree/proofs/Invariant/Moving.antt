@@ -11,7 +11,7 @@ use Rattle.art_kinds.specs.declared.records.ids.Child.{Child}
 use Rattle.art_kinds.specs.declared.records.ids.Child.TheVariants.{Leaf, Inner}
 use Rattle.blart_keys.proofs.Options.{is_some, some_of}
 use Rattle.art_tree.proofs.Invariant.Growing.{covers_above}
-use Rattle.art_tree.proofs.Invariant.OneEdge.{not_itself, one_above, kept_mid}
+use Rattle.art_tree.proofs.Invariant.OneEdge.{not_itself, same_edge, one_above, kept_mid}
 use Rattle.art_tree.proofs.Invariant.Prefixes.{keeps_as, live_before}
 use Rattle.art_tree.proofs.Invariant.SameShapes.{rooted, rooted-front}
 
@@ -217,7 +217,7 @@ module _ {P : ℕ} (keys : ℕ → Option Bytes) (nodes mid new : ℕ → Option
                 prefix = red.prefix ∙ ap (λ (y : Node). y.prefix) same;
                 edges = λ c. elim (eqb_tells c b) [
                   | inl h ↦ ap (child_at red.is.edges) h.1 ∙ red.now ∙ sym (ap (λ z. renamed n m (child_at x.edges z)) h.1 ∙ ap (renamed n m) low ∙ ap (λ z. Some (Inner z)) number-at)
-                  | inr h ↦ red.rest c h.1 ∙ ap (λ (y : Node). child_at y.edges c) same ∙ sym (renamed-off n m (child_at x.edges c) (λ z. h.1 (let o : Some (p, b) ≡ Some (p, c) = one_above keys nodes root s n (Some (p, b)) (Some (p, c)) leads (x, here, z) in let q : (p, c) ≡ (p, b) = cc in ap (λ (w : ℕ × ℕ). w.1) q)))
+                  | inr h ↦ red.rest c h.1 ∙ ap (λ (y : Node). child_at y.edges c) same ∙ sym (renamed-off n m (child_at x.edges c) (λ z. h.1 (sym (same_edge (p, b) (p, c) (one_above keys nodes root s n (Some (p, b)) (Some (p, c)) leads (x, here, z))).1)))
                 ];
                 ascends = λ a. red.ascends;
               },
@@ -225,7 +225,7 @@ module _ {P : ℕ} (keys : ℕ → Option Bytes) (nodes mid new : ℕ → Option
         | inr e ↦
             let m_off : m ≢ p = λ z. (let f : nodes p ≡ Some leads.0 = leads.1 in let g : nodes p ≡ None = ap nodes (sym z) ∙ ren.fresh (λ h. p_off (sym z ∙ h)) in cc) in
             let off : new_number n m j ≢ p = λ z. elim (eqb_tells j n) [ inl f ↦ m_off (sym (ap (new_number n m) f.1 ∙ number-at) ∙ z) | inr f ↦ e.1 (sym (number-off j f.1) ∙ z) ] in
-            (x, red.others (new_number n m j) off ∙ moved j x is, other_same (Some (p, b)) leads j x is (λ c h. e.1 (let q : (j, c) ≡ (p, b) = cc in ap (λ (w : ℕ × ℕ). w.0) q)))
+            (x, red.others (new_number n m j) off ∙ moved j x is, other_same (Some (p, b)) leads j x is (λ c h. e.1 (sym (same_edge (p, b) (j, c) h).0)))
       ]
 
   between : (above : Option (ℕ × ℕ)) → TurnsTo mid new root root' above (Inner m) → (k : ℕ) → IsSome (new k) → IsSome (mid k)

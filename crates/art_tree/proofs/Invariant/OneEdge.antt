@@ -64,6 +64,10 @@ module _ {P : ℕ} (keys : ℕ → Option Bytes) (nodes : ℕ → Option Node) (
       let a : CoversNode keys nodes s.front_of [] n = subst (λ (r : Option Child). RootFits keys nodes s.front_of r) e s.top in
       over [] n q c x is a (covers q c n x is ec) (omega arith)
 
+-- equal edges have the same node and byte
+pub same_edge : (d e : ℕ × ℕ) → Some d ≡ Some e → (d.0 ≡ e.0) × (d.1 ≡ e.1)
+same_edge d e is = let z : d ≡ e = cc in (ap (λ (w : ℕ × ℕ). w.0) z, ap (λ (w : ℕ × ℕ). w.1) z)
+
 -- only one edge, or the root, leads to a node
 pub one_above : {P : ℕ} → (keys : ℕ → Option Bytes) (nodes : ℕ → Option Node) (root : Option Child) (s : Shape P keys nodes root) (n : ℕ) (a b : Option (ℕ × ℕ)) → LeadsTo nodes root a (Inner n) → LeadsTo nodes root b (Inner n) → a ≡ b
 one_above keys nodes root s n None None l m = refl
