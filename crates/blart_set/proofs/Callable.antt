@@ -1,5 +1,5 @@
 -- A closure that may be called on each element of a list, in turn.
-use Rattle.std.proofs.Common.{◌≡◌, ◌∙◌, List, [], ◌∷◌, Bool, refl, sym, ap, subst}
+use Rattle.std.proofs.Common.{◌≡◌, ◌∙◌, List, [], ◌∷◌, Bool, refl, ap, subst}
 use Rattle.std.specs.Fn.{CalledAt, TakesAt}
 use Rattle.std.specs.List.{All, FoldsTo}
 use denote.Ref.{Bor}
@@ -15,8 +15,8 @@ module _ {F K : Type 0} (g : Mut F (Bor K × Unit {0}) Bool) where
     callable_first = can.at [] rest f x first refl
 
     -- and then on the others, in the state that this call left
-    pub callable_others : (b : Bool) (h : F) → CalledAt g f x b h → (others : List K) → others ≡ rest → CallableOnEachElement g h others
-    callable_others b h call others same = record { at = λ before after f' y e r. can.at (x ∷ before) after f' y (first ∙ ap (λ l. x ∷ l) (sym same ∙ e)) (h, (b, call), r) }
+    pub callable_others : (b : Bool) (h : F) → CalledAt g f x b h → CallableOnEachElement g h rest
+    callable_others b h call = record { at = λ before after f' y e r. can.at (x ∷ before) after f' y (first ∙ ap (λ l. x ∷ l) e) (h, (b, call), r) }
 
   still : (before : List K) (f f' : F) → FoldsTo (SomeCallAtElement g) f before f' → always_mut g f → always_mut g f'
   still [] f f' e h = subst (always_mut g) e h

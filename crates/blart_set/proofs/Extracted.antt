@@ -1,5 +1,5 @@
 -- One element on which a closure is called.
-use Rattle.std.proofs.Common.{◌≡◌, ℕ, suc, Bool, true, false, List, [], ◌∷◌, ◌++◌, length, map, reverse, Option, Some, None, refl, sym, ap, ◌∙◌}
+use Rattle.std.proofs.Common.{◌≡◌, ℕ, suc, Bool, true, false, List, [], ◌∷◌, length, map, reverse, Option, Some, None, refl, sym, ap, ◌∙◌}
 use Rattle.std.proofs.lemmas.List.{map-append, reverse-append, length-reverse}
 use Rattle.std.proofs.lemmas.Option.{same_Some}
 use denote.Ref.{Bor}
@@ -46,19 +46,6 @@ module _ {F K : Type 0} (g : Mut F (Bor K × Unit {0}) Bool) where
         on None before between left k z = (e ∙ ap (λ l. x ∷ l) z.0, z.1, z.2)
         on (Some y) before between left k z = (z.0, e ∙ ap (λ l. x ∷ l) z.1, z.2)
 
--- the elements of a list of numbered elements
-element_first : {K : Type 0} (S T : List (Numbered K (Unit {0}))) (id : ℕ) (x : K × Unit {0}) → S ≡ (id, x) ∷ T → elements S ≡ x.0 ∷ elements T
-unfolding elements pairs
-element_first S T id x e = ap elements e
-
-element_last : {K : Type 0} (S T : List (Numbered K (Unit {0}))) (id : ℕ) (x : K × Unit {0}) → S ≡ T ++ (id, x) ∷ [] → reverse (elements S) ≡ x.0 ∷ reverse (elements T)
-unfolding elements pairs
-element_last {K} S T id x e =
-    ap (λ l. reverse (elements l)) e
-    ∙ ap (λ l. reverse (map (λ p. p.0) l)) (map-append (λ (p : Numbered K (Unit {0})). p.1) T ((id, x) ∷ []))
-    ∙ ap reverse (map-append (λ (p : K × Unit {0}). p.0) (map (λ p. p.1) T) (x ∷ []))
-    ∙ reverse-append (elements T) (x.0 ∷ [])
-
 pub elements_none : {K : Type 0} (S : List (Numbered K (Unit {0}))) → S ≡ [] → elements S ≡ []
 unfolding elements pairs
 elements_none S e = ap elements e
@@ -72,12 +59,16 @@ module _ {K : Type 0} (ps : List (Numbered K (Unit {0}))) (id : ℕ) (x : K) (na
   pub same_element : (y : K) → leaf_in ps id ≡ Some (y, tt) → x ≡ y
   same_element y e = let p : (x, tt) ≡ (y, tt) = same_Some (x, tt) (y, tt) (sym named ∙ e) in ap (λ z. z.0) p
 
-  same_pair : (p : K × Unit {0}) → leaf_in ps id ≡ Some p → x ≡ p.0
-  same_pair p e = ap (λ z. z.0) (same_Some (x, tt) p (sym named ∙ e))
-
   module _ (old new : Cursor) where
     pub first_is : WasFirst ps old id new → elements (leaves_left old ps) ≡ x ∷ elements (leaves_left new ps)
-    first_is w = element_first (leaves_left old ps) (leaves_left new ps) id w.pair w.splits ∙ ap (λ y. y ∷ elements (leaves_left new ps)) (sym (same_pair w.pair w.named))
+    unfolding elements pairs
+    first_is w = ap elements w.splits ∙ ap (λ y. y ∷ elements (leaves_left new ps)) (sym (same_element w.pair.0 w.named))
 
     pub last_is : WasLast ps old id new → reverse (elements (leaves_left old ps)) ≡ x ∷ reverse (elements (leaves_left new ps))
-    last_is w = element_last (leaves_left old ps) (leaves_left new ps) id w.pair w.splits ∙ ap (λ y. y ∷ reverse (elements (leaves_left new ps))) (sym (same_pair w.pair w.named))
+    unfolding elements pairs
+    last_is w =
+        ap (λ l. reverse (elements l)) w.splits
+        ∙ ap (λ l. reverse (map (λ p. p.0) l)) (map-append (λ (p : Numbered K (Unit {0})). p.1) (leaves_left new ps) ((id, w.pair) ∷ []))
+        ∙ ap reverse (map-append (λ (p : K × Unit {0}). p.0) (map (λ p. p.1) (leaves_left new ps)) (w.pair ∷ []))
+        ∙ reverse-append (elements (leaves_left new ps)) (w.pair.0 ∷ [])
+        ∙ ap (λ y. y ∷ reverse (elements (leaves_left new ps))) (sym (same_element w.pair.0 w.named))

@@ -1,7 +1,6 @@
 -- What many pairs of a map of units say of the list of its keys.
 use Rattle.std.proofs.Common.{◌≡◌, ◌≢◌, ℕ, false, inl, inr, List, [], ◌∷◌, ◌++◌, map, refl, sym, ap, ◌∙◌, subst, Contains, bytes_eq}
 use Rattle.std.proofs.lemmas.List.{map-append}
-use Rattle.std.specs.Prelude.{Result, Ok, Err, OnOk, OnErr}
 use Rattle.std.specs.declared.ops.Bound.{Bound}
 use Rattle.blart_keys.specs.Content.{stores, between, IsContent}
 use Rattle.blart_keys.specs.Merges.{IsUnion}
@@ -50,25 +49,11 @@ module _ {X Y : Type 0} (f : X → Y) where
         lacks y S x h e = sym (list_any-map f (λ z. bytes_eq (bytes z) (bytes (f x))) S) ∙ subst (λ z. stores bytes (map f S) (bytes z) ≡ false) (sym e) h
 
 module _ {K V : Type 0} (kb : K → List ℕ) where
-  -- if a map is appended to another, the keys are appended to the keys
-  pub appended-keys : {A E : Type 0} (r : Result A E) (S T U : List (K × V)) → OnOk r (IsUnion (bytes kb) T S U) → OnOk r (IsUnion kb (keys kb T) (keys kb S) (keys kb U))
-  appended-keys (Ok a) S T U u = union_images (λ p. p.0) kb T S U u
-  appended-keys (Err e) S T U u = tt
-
-  -- and if one list is after the other, the keys are joined
-  pub joined-keys : {A E : Type 0} (r : Result A E) (S T U : List (K × V)) → OnOk r ((W : List (K × V)) → IsContent (bytes kb) W → W ≡ S ++ T → U ≡ W) → OnOk r ((W : List K) → IsContent kb W → W ≡ keys kb S ++ keys kb T → keys kb U ≡ W)
-  joined-keys (Ok a) S T U h = λ W c e.
+  -- if one list is after the other, the keys are joined
+  pub joined-keys : (S T U : List (K × V)) → ((W : List (K × V)) → IsContent (bytes kb) W → W ≡ S ++ T → U ≡ W) → (W : List K) → IsContent kb W → W ≡ keys kb S ++ keys kb T → keys kb U ≡ W
+  joined-keys S T U h W c e =
       let whole : W ≡ keys kb (S ++ T) = e ∙ sym (map-append (λ (p : K × V). p.0) S T) in
       ap (keys kb) (h (S ++ T) (content_from_map (λ p. p.0) kb (S ++ T) (subst (IsContent kb) whole c)) refl) ∙ sym whole
-  joined-keys (Err e) S T U h = tt
-
-  pub nothing-keys : {A E : Type 0} (r : Result A E) (S : List (K × V)) → OnOk r (S ≡ []) → OnOk r (keys kb S ≡ [])
-  nothing-keys (Ok a) S e = ap (keys kb) e
-  nothing-keys (Err e) S h = tt
-
-  pub refused-keys : {A E : Type 0} (r : Result A E) (S : List (K × V)) → OnErr r (S ≢ []) → OnErr r (keys kb S ≢ [])
-  refused-keys (Ok a) S h = tt
-  refused-keys (Err e) S h = some_images (λ p. p.0) S h
 
   -- if pairs are within the bounds, elements are
   pub some_between-keys : (S : List (K × V)) (lo hi : Bound (List ℕ)) → between (bytes kb) S lo hi ≢ [] → between kb (keys kb S) lo hi ≢ []

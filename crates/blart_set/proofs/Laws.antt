@@ -1,5 +1,5 @@
 -- Laws of merges, and of byte order, that a caller cites.
-use Rattle.std.proofs.Common.{◌≡◌, ℕ, suc, ◌<◌, ◌+◌, Bool, true, false, not, ◌||◌, inl, inr, List, [], ◌∷◌, length, arith, refl, sym, ap, ◌∙◌, subst, filter, Contains, bytes_eq, Ordering, Less, All, IsTrue, ◌↔◌, ◌==◌}
+use Rattle.std.proofs.Common.{◌≡◌, ℕ, suc, ◌<◌, ◌+◌, Bool, true, false, not, ◌||◌, inl, inr, List, [], ◌∷◌, length, arith, refl, sym, ap, ◌∙◌, subst, filter, Contains, bytes_eq, Ordering, Less, All, IsTrue, ◌↔◌, ◌==◌, ◌⊎◌}
 use Rattle.std.proofs.lemmas.Bool.{false≢true, cases_Bool, eqb-true, not-true, not_from_false, or_right}
 use Rattle.std.specs.Cmp.{both_ways}
 use Rattle.std.proofs.lemmas.List.Filters.{length-filter_both}
@@ -36,28 +36,37 @@ module _ {X : Type 0} (bytes : X → List ℕ) where
   stored : (S : List X) (x : X) → Contains S x → stores bytes S (bytes x) ≡ true
   stored S x c = stores_member bytes S (bytes x) x (Member-from_Contains x S c) refl
 
-  -- ---- a union is one set and the difference of the other, each bytes once
+  -- ---- a merge has what is kept from one set, and the other's difference from it
 
-  module _ (A B U : List X) (u : IsUnion bytes A B U) where
-    -- the elements of the union whose bytes A has are A
-    pub union_left : Ascends bytes A → filter (λ x. stores bytes A (bytes x)) U ≡ A
-    union_left a = same_ascending bytes (filter (λ x. stores bytes A (bytes x)) U) A (filter_ascends bytes (λ x. stores bytes A (bytes x)) U u.ascends) a (λ x. (
+  module _ (A B U : List X) (Kept : X → Type 0) (in_left : (x : X) → Kept x → Contains A x) (ascends : Ascends bytes U) (elements : (x : X) → Contains U x ↔ (Kept x ⊎ (Contains B x × (stores bytes A (bytes x) ≡ false)))) where
+    -- the elements of the merge whose bytes A has were kept
+    from_left : (L : List X) → Ascends bytes L → ((x : X) → Contains L x ↔ Kept x) → filter (λ x. stores bytes A (bytes x)) U ≡ L
+    from_left L l is = same_ascending bytes (filter (λ x. stores bytes A (bytes x)) U) L (filter_ascends bytes (λ x. stores bytes A (bytes x)) U ascends) l (λ x. (
       λ m.
           let r = filter_member (λ x. stores bytes A (bytes x)) U x (Member-from_Contains x (filter (λ x. stores bytes A (bytes x)) U) m) in
-          elim ((u.elements x).0 (Contains-from_Member x U r.0)) [ inl c ↦ c | inr c ↦ absurd (false≢true (sym c.1 ∙ r.1)) ],
-      λ m. Contains-from_Member x (filter (λ x. stores bytes A (bytes x)) U) (member_filter (λ x. stores bytes A (bytes x)) U x (Member-from_Contains x U ((u.elements x).1 (inl m))) (stored A x m)),
+          elim ((elements x).0 (Contains-from_Member x U r.0)) [ inl c ↦ (is x).1 c | inr c ↦ absurd (false≢true (sym c.1 ∙ r.1)) ],
+      λ m. let c = (is x).0 m in Contains-from_Member x (filter (λ x. stores bytes A (bytes x)) U) (member_filter (λ x. stores bytes A (bytes x)) U x (Member-from_Contains x U ((elements x).1 (inl c))) (stored A x (in_left x c))),
     ))
 
     -- the others are the elements of B with bytes that A lacks
-    pub union_right : Ascends bytes B → filter (λ x. not (stores bytes A (bytes x))) U ≡ difference bytes B A
-    union_right b = same_ascending bytes (filter (λ x. not (stores bytes A (bytes x))) U) (difference bytes B A) (filter_ascends bytes (λ x. not (stores bytes A (bytes x))) U u.ascends) (filter_ascends bytes (λ x. not (stores bytes A (bytes x))) B b) (λ x. (
+    from_right : Ascends bytes B → filter (λ x. not (stores bytes A (bytes x))) U ≡ difference bytes B A
+    from_right b = same_ascending bytes (filter (λ x. not (stores bytes A (bytes x))) U) (difference bytes B A) (filter_ascends bytes (λ x. not (stores bytes A (bytes x))) U ascends) (filter_ascends bytes (λ x. not (stores bytes A (bytes x))) B b) (λ x. (
       λ m.
           let r = filter_member (λ x. not (stores bytes A (bytes x))) U x (Member-from_Contains x (filter (λ x. not (stores bytes A (bytes x))) U) m) in
-          (difference_elements bytes B A x).1 (elim ((u.elements x).0 (Contains-from_Member x U r.0)) [ inl c ↦ absurd (false≢true (sym (not-true _ r.1) ∙ stored A x c)) | inr c ↦ c ]),
+          (difference_elements bytes B A x).1 (elim ((elements x).0 (Contains-from_Member x U r.0)) [ inl c ↦ absurd (false≢true (sym (not-true _ r.1) ∙ stored A x (in_left x c))) | inr c ↦ c ]),
       λ m.
           let c = (difference_elements bytes B A x).0 m in
-          Contains-from_Member x (filter (λ x. not (stores bytes A (bytes x))) U) (member_filter (λ x. not (stores bytes A (bytes x))) U x (Member-from_Contains x U ((u.elements x).1 (inr c))) (not_from_false _ c.1)),
+          Contains-from_Member x (filter (λ x. not (stores bytes A (bytes x))) U) (member_filter (λ x. not (stores bytes A (bytes x))) U x (Member-from_Contains x U ((elements x).1 (inr c))) (not_from_false _ c.1)),
     ))
+
+  -- ---- a union is one set and the difference of the other, each bytes once
+
+  module _ (A B U : List X) (u : IsUnion bytes A B U) where
+    pub union_left : Ascends bytes A → filter (λ x. stores bytes A (bytes x)) U ≡ A
+    union_left a = from_left A B U (λ x. Contains A x) (λ x c. c) u.ascends u.elements A a (λ x. (λ c. c, λ c. c))
+
+    pub union_right : Ascends bytes B → filter (λ x. not (stores bytes A (bytes x))) U ≡ difference bytes B A
+    union_right b = from_right A B U (λ x. Contains A x) (λ x c. c) u.ascends u.elements b
 
     -- the union has as many elements as both differences and the intersection
     pub union_count : Ascends bytes A → Ascends bytes B → length U ≡ length (difference bytes A B) + (length (intersection bytes A B) + length (difference bytes B A))
@@ -92,24 +101,10 @@ module _ {X : Type 0} (bytes : X → List ℕ) where
 
   module _ (A B U : List X) (u : IsSymmetricDifference bytes A B U) where
     pub symmetric_left : Ascends bytes A → filter (λ x. stores bytes A (bytes x)) U ≡ difference bytes A B
-    symmetric_left a = same_ascending bytes (filter (λ x. stores bytes A (bytes x)) U) (difference bytes A B) (filter_ascends bytes (λ x. stores bytes A (bytes x)) U u.ascends) (filter_ascends bytes (λ x. not (stores bytes B (bytes x))) A a) (λ x. (
-      λ m.
-          let r = filter_member (λ x. stores bytes A (bytes x)) U x (Member-from_Contains x (filter (λ x. stores bytes A (bytes x)) U) m) in
-          (difference_elements bytes A B x).1 (elim ((u.elements x).0 (Contains-from_Member x U r.0)) [ inl c ↦ c | inr c ↦ absurd (false≢true (sym c.1 ∙ r.1)) ]),
-      λ m.
-          let c = (difference_elements bytes A B x).0 m in
-          Contains-from_Member x (filter (λ x. stores bytes A (bytes x)) U) (member_filter (λ x. stores bytes A (bytes x)) U x (Member-from_Contains x U ((u.elements x).1 (inl c))) (stored A x c.0)),
-    ))
+    symmetric_left a = from_left A B U (λ x. Contains A x × (stores bytes B (bytes x) ≡ false)) (λ x c. c.0) u.ascends u.elements (difference bytes A B) (filter_ascends bytes (λ x. not (stores bytes B (bytes x))) A a) (difference_elements bytes A B)
 
     pub symmetric_right : Ascends bytes B → filter (λ x. not (stores bytes A (bytes x))) U ≡ difference bytes B A
-    symmetric_right b = same_ascending bytes (filter (λ x. not (stores bytes A (bytes x))) U) (difference bytes B A) (filter_ascends bytes (λ x. not (stores bytes A (bytes x))) U u.ascends) (filter_ascends bytes (λ x. not (stores bytes A (bytes x))) B b) (λ x. (
-      λ m.
-          let r = filter_member (λ x. not (stores bytes A (bytes x))) U x (Member-from_Contains x (filter (λ x. not (stores bytes A (bytes x))) U) m) in
-          (difference_elements bytes B A x).1 (elim ((u.elements x).0 (Contains-from_Member x U r.0)) [ inl c ↦ absurd (false≢true (sym (not-true _ r.1) ∙ stored A x c.0)) | inr c ↦ c ]),
-      λ m.
-          let c = (difference_elements bytes B A x).0 m in
-          Contains-from_Member x (filter (λ x. not (stores bytes A (bytes x))) U) (member_filter (λ x. not (stores bytes A (bytes x))) U x (Member-from_Contains x U ((u.elements x).1 (inr c))) (not_from_false _ c.1)),
-    ))
+    symmetric_right b = from_right A B U (λ x. Contains A x × (stores bytes B (bytes x) ≡ false)) (λ x c. c.0) u.ascends u.elements b
 
     pub symmetric_count : Ascends bytes A → Ascends bytes B → length U ≡ length (difference bytes A B) + length (difference bytes B A)
     symmetric_count a b =

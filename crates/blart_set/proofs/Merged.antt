@@ -1,21 +1,20 @@
 -- The merge of two lists that ascend is their union, or their symmetric difference.
 use Rattle.std.proofs.Common.{◌≡◌, ℕ, Bool, true, false, ◌⊎◌, ◌↔◌, ◌||◌, inl, inr, List, [], ◌∷◌, refl, sym, ap, ◌∙◌, subst, bytes_eq, Ordering, Less, Equal, Greater}
 use Rattle.std.specs.Prelude.{⊤}
-use Rattle.std.specs.Set.{sorted_merge}
+use Rattle.std.specs.Ordering.{is_lt}
 use Rattle.std.specs.Cmp.Lexicographic.{bytes_decides}
 use Rattle.std.proofs.lemmas.Bool.{false≢true, or_left, or_parts}
 use Rattle.blart_keys.specs.Bytes.{bytes_cmp}
 use Rattle.blart_keys.specs.Content.{Ascends, stores}
+use Rattle.blart_keys.specs.KeyLaws.{bytes_cmp-Equal}
 use Rattle.blart_keys.specs.Merges.{IsUnion, IsSymmetricDifference}
+use Rattle.blart_keys.proofs.MergeLemmas.{Lower}
 use Rattle.blart_keys.proofs.RankLemmas.{Member, each_member, from_each_member, Contains-from_Member, Member-from_Contains, Ranked, Ranked-from_AllPairs, AllPairs-from_Ranked}
 use Rattle.blart_set.specs.Merging.{Precedes}
-use Rattle.blart_set.proofs.Orders.{Lower, from_less, from_same, from_greater, less_apart, precedes_on, precedes_same, apart}
-use Rattle.blart_set.proofs.Stepping.{left_first, right_first, both_first}
+use Rattle.blart_set.proofs.Orders.{from_greater, less_apart, precedes_on, precedes_same, apart}
+use Rattle.blart_set.proofs.Stepping.{merged, left_first, right_first, both_first}
 
 module _ {K : Type 0} (kb : K → List ℕ) (both : Bool) where
-  abbrev merged : List K → List K → List K
-  merged A B = sorted_merge (λ x y. bytes_cmp (kb x) (kb y)) both A B
-
   -- whether an element of the left side is kept: always, or if the right side lacks its bytes
   abbrev pub Stays : Bool → Bool → Type 0
   Stays true b = ⊤
@@ -148,11 +147,11 @@ module _ {K : Type 0} (kb : K → List ℕ) where
     where
       go : IsMerged kb both (x ∷ A) B (merged kb both (x ∷ A) B) → (o : Ordering) → bytes_cmp (kb x) (kb y) ≡ o → IsMerged kb both (x ∷ A) (y ∷ B) (merged kb both (x ∷ A) (y ∷ B))
       go i Less e =
-          let l = from_less (kb x) (kb y) e in
+          let l : Lower kb x y = ap is_lt e in
           let q : Precedes kb x (y ∷ B) = (l, precedes_on kb x y B l s.0) in
           subst (IsMerged kb both (x ∷ A) (y ∷ B)) (sym (left_first kb both x A (y ∷ B) q)) (left_merged kb both x A (y ∷ B) (merged kb both A (y ∷ B)) r.0 q (on (y ∷ B) s))
       go i Equal e =
-          let same : kb y ≡ kb x = sym (from_same (kb x) (kb y) e) in
+          let same : kb y ≡ kb x = sym ((bytes_cmp-Equal (kb x) (kb y)).0 e) in
           both_merged both x A y B same r.0 (precedes_same kb x y B same s.0) (on B s.1)
       go i Greater e =
           let l = from_greater (kb x) (kb y) e in

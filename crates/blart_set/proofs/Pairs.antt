@@ -1,24 +1,22 @@
 -- What the pairs of a map of units say of the list of its keys.
-use Rattle.std.proofs.Common.{◌≡◌, ℕ, true, false, not, List, [], ◌∷◌, map, refl, sym, ap, ◌∙◌, subst, Option, Some, None, option_map, bytes_eq}
+use Rattle.std.proofs.Common.{◌≡◌, ℕ, true, false, not, List, [], ◌∷◌, map, refl, sym, ap, ◌∙◌, subst, Option, Some, None, option_map, bytes_eq, Bool, ◌&&◌, inl, inr}
 use Rattle.std.specs.Option.{is_some, is_none}
 use Rattle.std.specs.Result.{result_map_both}
 use Rattle.std.proofs.lemmas.List.{map-append}
 use Rattle.std.specs.Prelude.{Result, Ok, Err, OnOk, OnErr, IfOk, IfErr, IfSome}
-use Rattle.std.proofs.Common.{Bool, ◌&&◌, inl, inr}
 use Rattle.std.specs.declared.ops.Bound.{Bound}
 use Rattle.blart_keys.specs.Bounds.{CanRange, is_from_start, is_up_to_end}
-use Rattle.blart_keys.specs.Steps.{Puts, Inserts, PutsOver}
+use Rattle.blart_keys.specs.Steps.{bytes, Puts, Inserts, PutsOver}
 use Rattle.blart_keys.specs.declared.calls.TryInsertError.{TryInsertError}
 use Rattle.blart_keys.specs.declared.calls.TryInsertError.TheVariants.{Prefix, Memory}
 use Rattle.blart_set.specs.Elements.{RefusesElement, UpdatesElement}
-use Rattle.blart_keys.proofs.StoredLemmas.{some-at, stores_is}
+use Rattle.blart_keys.proofs.StoredLemmas.{is_some-map, some-at, stores_is}
 use Rattle.blart_keys.specs.Bytes.{begins, related, conflicts}
-use Rattle.blart_keys.specs.Content.{at, conflict, front_of, stores, subtree, without, under, between, IsContent, IsPut, IsOver}
-use Rattle.blart_keys.specs.Steps.{bytes}
+use Rattle.blart_keys.specs.Content.{at, conflict, front_of, stores, subtree, without, under, between, IsPut, IsOver}
 use Rattle.blart_keys.specs.Bulk.{PutsAll}
 use Rattle.blart_keys.specs.Stored.{pair_at, kept_key, kept_pair, kept_item, kept, Updates, TakesPair}
 use Rattle.blart_keys.specs.Walks.{TakesFirst, TakesLast}
-use Rattle.blart_keys.proofs.Mapped.{find-map, list_any-map, filter-map, content_map, put_map, over_map}
+use Rattle.blart_keys.proofs.Mapped.{find-map, list_any-map, filter-map, put_map, over_map}
 
 -- ---- what an insertion into the map says
 
@@ -45,17 +43,8 @@ module _ {K V : Type 0} (kb : K → List ℕ) (S : List (K × V)) where
   pub without-keys : (q : List ℕ) → without kb keys q ≡ map (λ p. p.0) (without (bytes kb) S q)
   without-keys q = filter-map (λ p. p.0) (λ x. not (bytes_eq (kb x) q)) S
 
-  pub subtree-keys : (q : List ℕ) → subtree kb keys q ≡ map (λ p. p.0) (subtree (bytes kb) S q)
-  subtree-keys q = filter-map (λ p. p.0) (λ x. related (kb x) q) S
-
-  pub content-keys : IsContent (bytes kb) S → IsContent kb keys
-  content-keys c = content_map (λ p. p.0) kb S c
-
   pub put-keys : (S' : List (K × V)) (x : K × V) → IsPut (bytes kb) S x S' → IsPut kb keys x.0 (map (λ p. p.0) S')
   put-keys S' x p = put_map (λ p. p.0) kb S S' x p
-
-  pub over-keys : (S' : List (K × V)) (x : K × V) → IsOver (bytes kb) S x S' → IsOver kb keys x.0 (map (λ p. p.0) S')
-  over-keys S' x p = over_map (λ p. p.0) kb S S' x p
 
 module _ {K V : Type 0} where
   pub takes_first-keys : (S S' : List (K × V)) (r : Option (K × V)) → TakesFirst S r S' → TakesFirst (map (λ p. p.0) S) (option_map (λ p. p.0) r) (map (λ p. p.0) S')
@@ -68,11 +57,7 @@ module _ {K V : Type 0} where
 
   -- no value was found if and only if the bytes are new
   new-keys : (kb : K → List ℕ) (S : List (K × V)) (q : List ℕ) (o : Option V) → o ≡ option_map (λ p. p.1) (at (bytes kb) S q) → is_none o ≡ not (stores kb (keys kb S) q)
-  new-keys kb S q o e = ap is_none e ∙ ap not (is_some-value (at (bytes kb) S q) ∙ some-at (bytes kb) S q ∙ sym (stores-keys kb S q))
-    where
-      is_some-value : (r : Option (K × V)) → is_some (option_map (λ p. p.1) r) ≡ is_some r
-      is_some-value None = refl
-      is_some-value (Some p) = refl
+  new-keys kb S q o e = ap is_none e ∙ ap not (is_some-map (λ (p : K × V). p.1) (at (bytes kb) S q) ∙ some-at (bytes kb) S q ∙ sym (stores-keys kb S q))
 
   module _ (kb : K → List ℕ) (S S' : List (K × V)) (q : List ℕ) where
     -- which bytes are stored after an update
@@ -132,12 +117,12 @@ module _ {K V : Type 0} where
 
   -- what an insertion over all related pairs leaves
   pub over-puts : (kb : K → List ℕ) (S S' : List (K × V)) (x : K × V) {A E : Type 0} (r : Result A E) → PutsOver kb S x r S' → OnOk r (IsOver kb (keys kb S) x.0 (keys kb S'))
-  over-puts kb S S' x (Ok a) h = over-keys kb S S' x h
+  over-puts kb S S' x (Ok a) h = over_map (λ p. p.0) kb S S' x h
   over-puts kb S S' x (Err e) h = tt
 
   pub alone-puts : (kb : K → List ℕ) (S S' : List (K × V)) (x : K × V) {A E : Type 0} (r : Result A E) → PutsOver kb S x r S' → OnErr r (subtree kb (keys kb S) (kb x.0) ≡ [])
   alone-puts kb S S' x (Ok a) h = tt
-  alone-puts kb S S' x (Err e) h = subtree-keys kb S (kb x.0) ∙ ap (map (λ p. p.0)) h.0
+  alone-puts kb S S' x (Err e) h = filter-map (λ p. p.0) (λ y. related (kb y) (kb x.0)) S ∙ ap (map (λ p. p.0)) h.0
 
 module _ {K V : Type 0} (kb : K → List ℕ) (S : List (K × V)) where
   pub under-keys : (q : List ℕ) → under kb (keys kb S) q ≡ map (λ p. p.0) (under (bytes kb) S q)

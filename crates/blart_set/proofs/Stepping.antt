@@ -2,13 +2,15 @@
 use Rattle.std.proofs.Common.{Less, Equal, Greater, ◌≡◌, ℕ, ◌<◌, Bool, true, false, not, inl, inr, List, [], ◌∷◌, ◌⊎◌, length, drop, refl, sym, ap, ◌∙◌, subst, cond, filter, arith, Some, None}
 use Rattle.std.specs.Set.{sorted_merge}
 use Rattle.std.specs.Cmp.Lexicographic.{bytes_decides}
+use Rattle.std.specs.Ordering.{is_lt}
 use denote.Ref.{Bor}
 use Rattle.blart_keys.specs.Bytes.{bytes_cmp}
 use Rattle.blart_keys.specs.Content.{Ascends, stores}
+use Rattle.blart_keys.specs.KeyLaws.{bytes_cmp-Equal}
 use Rattle.blart_set.specs.declared.merges.sides.Side.{Side}
 use Rattle.blart_set.specs.declared.merges.sides.Side.TheVariants.{Left, Right, Both}
 use Rattle.blart_set.specs.Merging.{Merge, Precedes, Steps, union_rest, symmetric_difference_rest, intersection_rest, difference_rest, side_element, one_element, both_element, left_element}
-use Rattle.blart_set.proofs.Orders.{less_cmp, same_cmp, greater_cmp, from_less, from_same, from_greater, precedes_same, precedes, across, apart, skip_first}
+use Rattle.blart_set.proofs.Orders.{less_cmp, greater_cmp, from_greater, precedes_same, precedes, across, apart, skip_first}
 
 module _ {K : Type 0} (kb : K → List ℕ) where
   -- ---- a step of the code
@@ -25,11 +27,11 @@ module _ {K : Type 0} (kb : K → List ℕ) where
 
     module _ (x y : Bor K) (e : S ≡ x.now ∷ drop 1 S) (f : T ≡ y.now ∷ drop 1 T) where
       pub steps_less : bytes_cmp (kb x.now) (kb y.now) ≡ Less → Steps kb old (Some (Left x)) (record { left = drop 1 S; right = T; compares = n })
-      steps_less c = (e, refl, precedes kb x.now S e s, across kb x.now y.now T f t (from_less (kb x.now) (kb y.now) c))
+      steps_less c = (e, refl, precedes kb x.now S e s, across kb x.now y.now T f t (ap is_lt c))
 
       pub steps_equal : bytes_cmp (kb x.now) (kb y.now) ≡ Equal → Steps kb old (Some (Both x)) (record { left = drop 1 S; right = drop 1 T; compares = n })
       steps_equal c =
-          let same : kb y.now ≡ kb x.now = sym (from_same (kb x.now) (kb y.now) c) in
+          let same : kb y.now ≡ kb x.now = sym ((bytes_cmp-Equal (kb x.now) (kb y.now)).0 c) in
           (e, (y.now, f, same), precedes kb x.now S e s, precedes_same kb x.now y.now (drop 1 T) same (precedes kb y.now T f t))
 
       pub steps_greater : bytes_cmp (kb x.now) (kb y.now) ≡ Greater → Steps kb old (Some (Right y)) (record { left = S; right = drop 1 T; compares = n })
@@ -37,7 +39,7 @@ module _ {K : Type 0} (kb : K → List ℕ) where
 
   -- ---- the merged list
 
-  abbrev merged : Bool → List K → List K → List K
+  abbrev pub merged : Bool → List K → List K → List K
   merged both A B = sorted_merge (λ x y. bytes_cmp (kb x) (kb y)) both A B
 
   alone : (both : Bool) (A : List K) → merged both A [] ≡ A
@@ -53,7 +55,7 @@ module _ {K : Type 0} (kb : K → List ℕ) where
   right_first both (x ∷ A) y B p = rw (greater_cmp (kb x) (kb y) p.0) refl
 
   pub both_first : (both : Bool) (x : K) (A : List K) (y : K) (B : List K) → kb y ≡ kb x → merged both (x ∷ A) (y ∷ B) ≡ cond both (x ∷ merged both A B) (merged both A B)
-  both_first both x A y B e = rw (same_cmp (kb x) (kb y) (sym e)) refl
+  both_first both x A y B e = rw ((bytes_cmp-Equal (kb x) (kb y)).1 (sym e)) refl
 
   -- ---- what a step does to what is left
 

@@ -1,16 +1,15 @@
 -- What an insertion into a set says to its callers, if there was room for it.
 use Rattle.std.proofs.Common.{◌≡◌, ℕ, ◌+◌, true, false, not, Bool, List, length, map, ap, ◌∙◌, sym, refl, Option, Some, None, option_map}
-use Rattle.std.specs.Prelude.{if◌then◌else◌, Result, Ok, Err, OnOk, OnErr, IfOk}
+use Rattle.std.specs.Prelude.{if◌then◌else◌, Result, Ok, Err, OnErr, IfOk}
 use Rattle.std.specs.Option.{is_some, is_none}
 use Rattle.std.proofs.lemmas.Bool.{false≢true}
 use Rattle.std.proofs.lemmas.List.{length-map}
 use Rattle.blart_keys.specs.declared.calls.InsertPrefixError.{InsertPrefixError}
-use Rattle.blart_keys.specs.Content.{at, conflict, stores, IsContent, IsPut}
-use Rattle.blart_keys.specs.Steps.{bytes, Puts}
-use Rattle.blart_keys.specs.Stored.{kept, kept_item}
+use Rattle.blart_keys.specs.Content.{conflict}
+use Rattle.blart_keys.specs.Steps.{Puts}
+use Rattle.blart_keys.specs.Stored.{kept}
 use Rattle.blart_map.specs.Reserved.{as_tried}
-use Rattle.blart_map.proofs.Beneath.{tried_len}
-use Rattle.blart_set.proofs.Pairs.{told, keys, conflict-keys, puts-new, puts-put, puts-free}
+use Rattle.blart_set.proofs.Pairs.{told, keys, conflict-keys}
 
 -- the result of `is_none`
 pub tells-none : {V : Type 0} (o : Option V) (b : Bool) → is_some o ≡ not b → b ≡ is_none o
@@ -19,21 +18,14 @@ tells-none None false e = absurd (false≢true e)
 tells-none (Some v) true e = absurd (false≢true (sym e))
 tells-none (Some v) false e = refl
 
+-- what holds with one type of error holds with the other
+pub told_tried : {V : Type 0} (P : Bool → Type 0) (r : Result (Option V) InsertPrefixError) → IfOk (told (as_tried r)) P → IfOk (told r) P
+told_tried P (Ok old) h = h
+told_tried P (Err e) h = tt
+
 module _ {K V : Type 0} (kb : K → List ℕ) (S S' : List (K × V)) (x : K × V) where
   abbrev Tried : Result (Option V) InsertPrefixError → Type 0
   Tried r = Puts kb (option_map (λ p. p.1)) S x (kept kb S x) (as_tried r) S'
-
-  pub tried-new : (r : Result (Option V) InsertPrefixError) → Tried r → IfOk (told r) (λ new. new ≡ not (stores kb (keys kb S) (kb x.0)))
-  tried-new (Ok old) put = puts-new kb S S' x (kept kb S x) (Ok old) put
-  tried-new (Err e) put = tt
-
-  pub tried-put : (r : Result (Option V) InsertPrefixError) → Tried r → OnOk (told r) (IsPut kb (keys kb S) (kept_item (at kb (keys kb S) (kb x.0)) x.0) (keys kb S'))
-  tried-put (Ok old) put = puts-put kb S S' x (Ok old) put
-  tried-put (Err e) put = tt
-
-  pub tried-free : (r : Result (Option V) InsertPrefixError) → Tried r → OnOk (told r) (conflict kb (keys kb S) (kb x.0) ≡ false)
-  tried-free (Ok old) put = puts-free kb S S' x (kept kb S x) (Ok old) put
-  tried-free (Err e) put = tt
 
   -- an error says that the key conflicts
   pub tried-why : (r : Result (Option V) InsertPrefixError) → Tried r → OnErr (told r) (conflict kb (keys kb S) (kb x.0) ≡ true)
@@ -53,6 +45,6 @@ module _ {K V : Type 0} (kb : K → List ℕ) (S S' : List (K × V)) (x : K × V
       one None = refl
       one (Some v) = refl
 
-  pub tried-len : (r : Result (Option V) InsertPrefixError) → IsContent (bytes kb) S → Tried r → IfOk (told r) (λ new. length (keys kb S') ≡ length (keys kb S) + (if new then 1 else 0))
-  tried-len (Ok old) content put = len-keys old (tried_len kb S x S' (Ok old) content put)
-  tried-len (Err e) content put = tt
+  pub len-told : {E : Type 0} (r : Result (Option V) E) → IfOk r (λ old. length S' ≡ length S + (if is_some old then 0 else 1)) → IfOk (told r) (λ new. length (keys kb S') ≡ length (keys kb S) + (if new then 1 else 0))
+  len-told (Ok old) e = len-keys old e
+  len-told (Err e) h = tt

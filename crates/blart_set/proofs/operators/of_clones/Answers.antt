@@ -31,14 +31,11 @@ loop-item-preserved g c =
       subst (λ l. AllZip g.K.Clone.is_clone (map now (c.loop-item.yielded ++ c.in-Some.item ∷ [])) l) (sym c.in_ok-push.ensures.items) (subst (λ l. AllZip g.K.Clone.is_clone l (c.loop-item.clones.items ++ clone ∷ [])) (sym (map-append now c.loop-item.yielded (c.in-Some.item ∷ []))) zipped),
     )
 
-pub returns-clause-made : goal.returns-clause-made
-returns-clause-made g c =
+pub returns : goal.returns
+returns g c =
     let gives = g.I.Iterator.next_gives in
     let came = subst (λ from. Yields gives from c.loop-item.yielded c.loop-item.item-iterator) c.into_iter-item-iterator.ensures.into_iter_gives c.loop-item.yielded_by in
-    on_ok c.from_vec.result (λ set made. (c.loop-item.yielded, c.loop-item.clones.items, (c.next.new.self, (c.loop-item.item-iterator, came, it.said gives c.in-None.is c.next.ensures.steps)), c.loop-item.invariant.2, made)) c.from_vec.ensures.made
-
-pub returns-clause-refused : goal.returns-clause-refused
-returns-clause-refused g c =
-    let gives = g.I.Iterator.next_gives in
-    let came = subst (λ from. Yields gives from c.loop-item.yielded c.loop-item.item-iterator) c.into_iter-item-iterator.ensures.into_iter_gives c.loop-item.yielded_by in
-    cloned_some gives g.K.Clone.is_clone now c.args.items c.loop-item.yielded c.loop-item.item-iterator c.loop-item.clones.items c.from_vec.result came c.loop-item.invariant.2 c.from_vec.ensures.refused
+    record {
+      made = on_ok c.from_vec.result (λ set made. (c.loop-item.yielded, c.loop-item.clones.items, (c.next.new.self, (c.loop-item.item-iterator, came, it.said gives c.in-None.is c.next.ensures.steps)), c.loop-item.invariant.2, made)) c.from_vec.ensures.made;
+      refused = cloned_some gives g.K.Clone.is_clone now c.args.items c.loop-item.yielded c.loop-item.item-iterator c.loop-item.clones.items c.from_vec.result came c.loop-item.invariant.2 c.from_vec.ensures.refused;
+    }

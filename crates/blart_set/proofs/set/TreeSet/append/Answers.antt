@@ -1,29 +1,20 @@
+use Rattle.std.proofs.Common.{rules, ap, map}
+use Rattle.std.proofs.lemmas.Result.{on_ok_weaker, on_err_weaker}
 use Rattle.blart_map.specs.Content.{pairs}
 use Rattle.blart_set.specs.Elements.{elements}
-use Rattle.blart_set.proofs.Images.{appended-keys, joined-keys, nothing-keys, refused-keys}
+use Rattle.blart_set.proofs.Images.{union_images, joined-keys, some_images}
 use Rattle.blart_set.proofs.StoredBytes.{appended-stores}
 use Rattle.blart_set.proofs.set.TreeSet.append.Goals as goal
 
-pub returns-clause-appended : goal.returns-clause-appended
+pub returns : goal.returns
 unfolding elements
-returns-clause-appended g c = rw (← c.self.view_is) (rw (← c.other.view_is) (appended-keys g.K.AsBytes.bytes c.append.result (pairs c.self.inside.map) (pairs c.other.inside.map) (pairs c.append.new.self) c.append.ensures.appended))
-
-pub returns-clause-joined : goal.returns-clause-joined
-unfolding elements
-returns-clause-joined g c = rw (← c.self.view_is) (rw (← c.other.view_is) (joined-keys g.K.AsBytes.bytes c.append.result (pairs c.self.inside.map) (pairs c.other.inside.map) (pairs c.append.new.self) c.append.ensures.joined))
-
-pub returns-clause-emptied : goal.returns-clause-emptied
-unfolding elements
-returns-clause-emptied g c = nothing-keys g.K.AsBytes.bytes c.append.result (pairs c.append.new.other) c.append.ensures.emptied
-
-pub returns-clause-refused : goal.returns-clause-refused
-unfolding elements
-returns-clause-refused g c = rw (← c.self.view_is) (refused-keys g.K.AsBytes.bytes c.append.result (pairs c.self.inside.map) c.append.ensures.refused)
-
-pub returns-clause-other_refused : goal.returns-clause-other_refused
-unfolding elements
-returns-clause-other_refused g c = rw (← c.other.view_is) (refused-keys g.K.AsBytes.bytes c.append.result (pairs c.other.inside.map) c.append.ensures.other_refused)
-
-pub returns-clause-stored : goal.returns-clause-stored
-unfolding elements
-returns-clause-stored g c = rw (← c.self.view_is) (rw (← c.other.view_is) (appended-stores g.K.AsBytes.bytes (pairs c.self.inside.map) (pairs c.other.inside.map) (pairs c.append.new.self) c.append.result c.append.ensures.found))
+returns g c = record {
+  stored = rw (← c.self.view_is) (rw (← c.other.view_is) (on_ok_weaker c.append.result (appended-stores g.K.AsBytes.bytes (pairs c.self.inside.map) (pairs c.other.inside.map) (pairs c.append.new.self)) c.append.ensures.found));
+  appended = rw (← c.self.view_is) (rw (← c.other.view_is) (on_ok_weaker c.append.result (union_images (λ p. p.0) g.K.AsBytes.bytes (pairs c.other.inside.map) (pairs c.self.inside.map) (pairs c.append.new.self)) c.append.ensures.appended));
+  joined = rw (← c.self.view_is) (rw (← c.other.view_is) (on_ok_weaker c.append.result (joined-keys g.K.AsBytes.bytes (pairs c.self.inside.map) (pairs c.other.inside.map) (pairs c.append.new.self)) c.append.ensures.joined));
+  emptied = on_ok_weaker c.append.result (ap (map (λ p. p.0))) c.append.ensures.emptied;
+  err = search rules;
+  other_err = search rules;
+  refused = rw (← c.self.view_is) (on_err_weaker c.append.result (some_images (λ p. p.0) (pairs c.self.inside.map)) c.append.ensures.refused);
+  other_refused = rw (← c.other.view_is) (on_err_weaker c.append.result (some_images (λ p. p.0) (pairs c.other.inside.map)) c.append.ensures.other_refused);
+}
