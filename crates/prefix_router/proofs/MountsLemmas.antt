@@ -3,14 +3,14 @@
 use Rattle.std.proofs.Common.{◌≡◌, ◌≢◌, ℕ, ◌+◌, ◌-◌, ◌≤◌, Bool, true, false, List, [], ◌∷◌, length, refl, sym, ap, ◌∙◌, subst, arith, Option, Some, None, option_map, is_some, position, flat_map, Vec, if◌then◌else◌}
 use Rattle.std.specs.Global.{Global}
 use Rattle.std.proofs.lemmas.Bool.{false≢true, false_from_ne_true}
-use Rattle.blart_map.specs.Content.{Numbered}
 use Rattle.blart_keys.specs.Bytes.{begins, related}
 use Rattle.blart_keys.specs.KeyBytes.{vec_bytes}
 use Rattle.blart_keys.specs.Stored.{bytes, pair_at, value_at, has, overlaps, Updates}
 use Rattle.blart_keys.proofs.ContentLemmas.{at_None, conflict_found, conflict_member}
+use Rattle.blart_keys.proofs.Options.{none_of, some_of}
 use Rattle.blart_keys.proofs.StoredLemmas.{is_some-map}
 use Rattle.blart_keys.proofs.RankLemmas.{Member, Ranked}
-use Rattle.blart_map.specs.Content.{pairs}
+use Rattle.blart_map.specs.Content.{Numbered, pairs}
 use Rattle.prefix_router.specs.Best.{IsBest, is_longer}
 use Rattle.prefix_router.specs.Nesting.{longest_front, lead, leads_by, IsLongestFront}
 use Rattle.prefix_router.specs.Tables.{all_mounts, mounts_of, AreCounted}
@@ -120,13 +120,10 @@ module _ {V : Type 0} (T T' : List (List (Numbered (Vec ℕ Global) V))) (q : Li
   module _ (n : ℕ) (counted : AreCounted T n) (others : (r : List ℕ) → r ≢ q → pair_at vec_bytes (all_mounts T') r ≡ pair_at vec_bytes (all_mounts T) r) (there : has vec_bytes (all_mounts T) q ≡ true) (less : length (all_mounts T') + 1 ≡ length (all_mounts T)) where
     -- no other table has it, since the mounts are counted
     gone : pair_at vec_bytes (all_mounts T') q ≡ None
-    gone = by (pair_at vec_bytes (all_mounts T') q) refl
-      where
-        by : (o : Option (Vec ℕ Global × V)) → pair_at vec_bytes (all_mounts T') q ≡ o → pair_at vec_bytes (all_mounts T') q ≡ None
-        by None e = e
-        by (Some p) e =
-            let d : length (mounts_of T') + 1 ≡ length (mounts_of T) + 1 = ap (λ (b : Bool). length (mounts_of T') + (if b then 1 else 0)) (sym there) ∙ count_mounts (Some p) (e, others) in
-            absurd (omega (arith, counted.all, counted.distinct, less, d, fewer_mounts T'))
+    gone = none_of (pair_at vec_bytes (all_mounts T') q) (λ s. (
+        let p = some_of (pair_at vec_bytes (all_mounts T') q) s in
+        let d : length (mounts_of T') + 1 ≡ length (mounts_of T) + 1 = ap (λ (b : Bool). length (mounts_of T') + (if b then 1 else 0)) (sym there) ∙ count_mounts (Some p.0) (p.1, others) in
+        omega (arith, counted.all, counted.distinct, less, d, fewer_mounts T')))
 
     pub updates_gone : Updates {V = V} vec_bytes (all_mounts T) (all_mounts T') q None
     updates_gone = (gone, others)

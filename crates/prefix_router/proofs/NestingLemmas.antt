@@ -1,6 +1,7 @@
 -- The longest prefix of a path, the walks over its prefixes and over what begins with some bytes,
 -- and where paths lead after a change.
 use Rattle.std.proofs.Common.{◌≡◌, ◌≢◌, ℕ, suc, ◌+◌, ◌-◌, ◌<◌, ◌≤◌, ◌⊎◌, inl, inr, Bool, true, false, not, ltb, leb, ◌&&◌, List, [], ◌∷◌, length, refl, sym, ap, ◌∙◌, subst, arith, slice_get, Option, Some, None, option_map, bytes_eq, filter, if◌then◌else◌}
+use Rattle.std.proofs.Math.Bool.{and-false}
 use Rattle.std.proofs.lemmas.Bool.{false≢true, cases_Bool, cases_lt, cond-true, cond-false, and_parts, and_from, or_cases, lt-ltb, ltb-true, ltb-false, le-leb, leb-true, false_from_ne_true}
 use Rattle.std.specs.declared.ops.Bound.{Bound}
 use Rattle.std.specs.Cmp.Lexicographic.{bytes_decides}
@@ -44,12 +45,8 @@ not_before f b h = false_from_ne_true _ (λ l. elim (cases_lt (length f) (length
 pub from_front : (f b : List ℕ) → (not (less b f) && begins f b) ≡ begins f b
 from_front f b = elim (cases_Bool (begins f b)) [
   | inl t ↦ rw (t, not_before f b t) refl
-  | inr n ↦ rw n (and_false (not (less b f)))
+  | inr n ↦ rw n (and-false (not (less b f)))
 ]
-  where
-    and_false : (x : Bool) → (x && false) ≡ false
-    and_false true = refl
-    and_false false = refl
 
 module _ {K V : Type 0} (kb : K → List ℕ) where
   -- ---- the longest prefix

@@ -9,6 +9,7 @@ use Rattle.blart_keys.specs.declared.calls.TryInsertError.{TryInsertError}
 use Rattle.blart_keys.specs.declared.calls.TryInsertError.TheVariants.{Prefix, Memory}
 use Rattle.blart_keys.specs.Stored.{bytes, pair_at, value_at, has, overlaps, Updates, Refuses}
 use Rattle.blart_keys.proofs.ContentLemmas.{at_Some, conflict_found, conflict_member, stored_no_conflict}
+use Rattle.blart_keys.proofs.Options.{none_of, some_of}
 use Rattle.blart_keys.proofs.StoredLemmas.{is_some-map}
 use Rattle.blart_keys.proofs.RankLemmas.{Member, Member-append_left, Member-append_right}
 use Rattle.prefix_router.proofs.BestLemmas.{pair_at-left, pair_at-right}
@@ -40,19 +41,11 @@ module _ {K V : Type 0} (kb : K → List ℕ) where
 
   -- bytes that are not stored have no pair
   pub not_stored : (S : List (K × V)) (q : List ℕ) → has kb S q ≡ false → pair_at kb S q ≡ None
-  not_stored S q h = by (pair_at kb S q) refl
-    where
-      by : (o : Option (K × V)) → pair_at kb S q ≡ o → pair_at kb S q ≡ None
-      by None e = e
-      by (Some p) e = absurd (false≢true (sym h ∙ ap is_some e))
+  not_stored S q h = none_of (pair_at kb S q) (λ s. false≢true (sym h ∙ s))
 
   -- bytes that are stored have one
   pub is_stored : (S : List (K × V)) (q : List ℕ) → has kb S q ≡ true → (p : K × V) × (pair_at kb S q ≡ Some p)
-  is_stored S q h = by (pair_at kb S q) refl
-    where
-      by : (o : Option (K × V)) → pair_at kb S q ≡ o → (p : K × V) × (pair_at kb S q ≡ Some p)
-      by None e = absurd (false≢true (ap is_some (sym e) ∙ h))
-      by (Some p) e = (p, e)
+  is_stored S q h = some_of (pair_at kb S q) h
 
   -- stored bytes do not conflict
   pub stored_free : (S : List (K × V)) → IsContent (bytes kb) S → (q : List ℕ) → has kb S q ≡ true → overlaps kb S q ≡ false
@@ -74,11 +67,10 @@ module _ {K V : Type 0} (kb : K → List ℕ) where
 
   -- if two lists together lack the bytes, the first does
   pub none_left : (A B : List (K × V)) (q : List ℕ) → pair_at kb (A ++ B) q ≡ None → pair_at kb A q ≡ None
-  none_left A B q h = by (pair_at kb A q) refl
-    where
-      by : (o : Option (K × V)) → pair_at kb A q ≡ o → pair_at kb A q ≡ None
-      by None e = e
-      by (Some p) e = absurd (let s : None ≡ Some p = sym h ∙ pair_at-left kb A B q p e in cc)
+  none_left A B q h = none_of (pair_at kb A q) (λ s. (
+      let p = some_of (pair_at kb A q) s in
+      let e : None ≡ Some p.0 = sym h ∙ pair_at-left kb A B q p.0 p.1 in
+      cc))
 
   -- and so does the second
   pub none_right : (A B : List (K × V)) (q : List ℕ) → pair_at kb (A ++ B) q ≡ None → pair_at kb B q ≡ None

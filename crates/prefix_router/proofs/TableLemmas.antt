@@ -4,6 +4,7 @@ use Rattle.std.proofs.Math.Seq.{take-suc}
 use Rattle.std.proofs.lemmas.Grind.{flat_map-append}
 use denote.Ref.{Bor}
 use Rattle.blart_keys.specs.Stored.{shown, pair_at, value_at}
+use Rattle.blart_keys.proofs.Options.{mapped_some, mapped_none}
 use Rattle.prefix_router.specs.Best.{IsBest, better}
 use Rattle.prefix_router.proofs.BestLemmas.{Ranks, best_append, best_none, pair_at-left, pair_at-right}
 
@@ -35,11 +36,7 @@ module _ {X Y : Type 0} (f : X → List Y) where
 module _ {K V : Type 0} (kb : K → List ℕ) where
   -- bytes without a value have no pair
   pub no_value : (S : List (K × V)) (r : List ℕ) → value_at kb S r ≡ None → pair_at kb S r ≡ None
-  no_value S r e = by (pair_at kb S r) refl
-    where
-      by : (o : Option (K × V)) → pair_at kb S r ≡ o → pair_at kb S r ≡ None
-      by None h = h
-      by (Some p) h = absurd (let k : Some p.1 ≡ None = ap (option_map (λ (p : K × V). p.1)) (sym h) ∙ e in cc)
+  no_value S r e = mapped_none (λ (p : K × V). p.1) (pair_at kb S r) e
 
   -- neither of two lists has the bytes
   pub none_append : (A B : List (K × V)) (r : List ℕ) → pair_at kb A r ≡ None → pair_at kb B r ≡ None → pair_at kb (A ++ B) r ≡ None
@@ -54,11 +51,9 @@ module _ {K V : Type 0} (kb : K → List ℕ) where
 
   -- and its value
   pub value_found_at : {X : Type 0} (f : X → List (K × V)) (xs : List X) (i : ℕ) (x : X) → i < length xs → x ≡ get_or xs i x → (r : List ℕ) → pair_at kb (flat_map f (take i xs)) r ≡ None → (v : V) → value_at kb (f x) r ≡ Some v → value_at kb (flat_map f xs) r ≡ Some v
-  value_found_at f xs i x l e r none v h = by (pair_at kb (f x) r) refl
-    where
-      by : (o : Option (K × V)) → pair_at kb (f x) r ≡ o → value_at kb (flat_map f xs) r ≡ Some v
-      by None k = absurd (let s : None ≡ Some v = ap (option_map (λ (p : K × V). p.1)) (sym k) ∙ h in cc)
-      by (Some p) k = ap (option_map (λ (p : K × V). p.1)) (found_at f xs i x l e r none p k) ∙ ap (option_map (λ (p : K × V). p.1)) (sym k) ∙ h
+  value_found_at f xs i x l e r none v h =
+      let p = mapped_some (λ (p : K × V). p.1) (pair_at kb (f x) r) v h in
+      ap (option_map (λ (p : K × V). p.1)) (found_at f xs i x l e r none p.0 p.1) ∙ ap Some p.2
 
 module _ {K V : Type 0} (kb : K → List ℕ) (test : List ℕ → Bool) (is_better : List ℕ → List ℕ → Bool) where
   -- no list has no best pair
