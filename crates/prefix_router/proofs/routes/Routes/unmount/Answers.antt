@@ -1,4 +1,4 @@
-use Rattle.std.proofs.Common.{◌≡◌, ◌∙◌, ap, sym, length, None, refl, ◌+◌, List, Vec, ℕ, option_map}
+use Rattle.std.proofs.Common.{rules, ◌≡◌, ◌∙◌, ap, sym, length, None, refl, ◌+◌, List, Vec, ℕ, option_map}
 use Rattle.std.specs.Global.{Global}
 use Rattle.blart_keys.specs.KeyBytes.{vec_bytes}
 use Rattle.blart_keys.specs.Stored.{pair_at, has}
@@ -36,14 +36,13 @@ facts g c =
 pub invariant_of-self : goal.invariant_of-self
 invariant_of-self g c = (facts g c).counted
 
-pub returns-clause-old : goal.returns-clause-old
-returns-clause-old g c = (facts g c).value
-
-pub returns-clause-unmounted : goal.returns-clause-unmounted
-returns-clause-unmounted g c = (facts g c).updates
-
-pub returns-clause-routes : goal.returns-clause-routes
-returns-clause-routes g c = (facts g c).routes
-
-pub returns-clause-len : goal.returns-clause-len
-returns-clause-len g c = (facts g c).len
+pub returns : goal.returns
+returns g c =
+    let did = facts g c in
+    record {
+      old = did.value;
+      unmounted = did.updates;
+      routes = did.routes;
+      len = did.len;
+      tables = search rules;
+    }
