@@ -5,13 +5,17 @@
 //! whose name ends in `_reserved` do not allocate, since the tree has room for the pair. The others
 //! may fail to allocate.
 //!
-//! | If the bytes are stored, the call | | reserved | disjoint | disjoint, reserved |
+//! The first column says what a call does if the bytes are stored: it *sets* the value and keeps
+//! the key, *replaces* the pair, *skips* the new pair, or *returns* the leaf and the new pair. The
+//! calls of the last row must get bytes that are not stored.
+//!
+//! | | | reserved | disjoint | disjoint, reserved |
 //! |---|---|---|---|---|
-//! | keeps the key and sets the value | `insert` | `insert_reserved` | `insert_disjoint` | `insert_disjoint_reserved` |
-//! | replaces the pair | `replace` | | | `replace_reserved` |
-//! | changes nothing | | | | `insert_absent_reserved` |
-//! | returns the leaf and the new pair | `Tree::add` | `Tree::add_within` | `add_disjoint` | `add_disjoint_reserved` |
-//! | must not be made | `room_for`, then `place_ready` | `place_reserved` | | |
+//! | sets | `insert` | `insert_reserved` | `insert_disjoint` | `insert_disjoint_reserved` |
+//! | replaces | `replace` | | | `replace_reserved` |
+//! | skips | | | | `insert_absent_reserved` |
+//! | returns | `Tree::add` | `Tree::add_within` | `add_disjoint` | `add_disjoint_reserved` |
+//! | not stored | `room_for`, then `place_ready` | `place_reserved` | | |
 ghost use Rattle.std.specs.Prelude.{◌≡◌, ◌≢◌, ◌+◌, ◌<◌, ◌≤◌, ℕ, true, false, option_map, Some, None, Ok, IfOk, OnErr};
 ghost use Rattle.blart_keys.specs.Content.{stores, conflict, IsContent, IsPut};
 ghost use Rattle.blart_keys.specs.Steps.{bytes as pair_bytes, Puts, Inserts};
@@ -261,7 +265,8 @@ pub fn insert_disjoint<K: NoPrefixesBytes + Drop, V: Drop, const P: usize>(
     }
 }
 
-/// Sets the value of the stored key with the same bytes and returns the old value, or adds the pair.
+/// Sets the value of the stored key with the same bytes and returns the old value, or adds the
+/// pair.
 /// A stored key is unchanged. Returns an error if the key conflicts or if it fails to allocate, and
 /// the pairs are then unchanged.
 pub fn insert<K: AsBytes + Drop, V: Drop, const P: usize>(

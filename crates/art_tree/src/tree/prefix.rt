@@ -79,8 +79,8 @@ fn prune<K: AsBytes + Drop, V: Drop, const P: usize>(
     leaves.law();
 }
 
-/// Removes the leaves from `first` up to `last`, except for `last`. These are the leaves whose bytes
-/// begin with the prefix.
+/// Removes the leaves from `first` up to `last`, except for `last`. These are the leaves whose
+/// bytes begin with the prefix.
 fn remove_leaves<K: AsBytes + Drop, V: Drop>(
     leaves: &mut Leaves<K, V>,
     first: LeafId,
