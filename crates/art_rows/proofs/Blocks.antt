@@ -5,7 +5,7 @@ use Rattle.std.proofs.lemmas.List.{take-append-drop, take-take}
 use Rattle.std.proofs.lemmas.List.Sums.{sum_by-append, sum_by-cons, sum_by-set}
 use Rattle.std.specs.List.{range_with_len}
 use Rattle.art_slots.specs.Words.{times}
-use Rattle.art_rows.specs.Rows.{among, place_in}
+use Rattle.art_rows.specs.Rows.{among, index_in}
 use Rattle.art_rows.proofs.NumbersLemmas.{eqb_same, eqb_other}
 
 times-same : (m : ℕ) (ns : List ℕ) (n : ℕ) → eqb m n ≡ true → times (m ∷ ns) n ≡ times ns n + 1
@@ -32,7 +32,7 @@ times-take ns k n =
     let b : times (take k ns ++ drop k ns) n ≡ times ns n = ap (λ l. times l n) (take-append-drop k ns) in
     omega arith
 
--- the number at a place occurs in the list
+-- the number at an index occurs in the list
 pub next_there : (ns : List ℕ) (k d : ℕ) → k < length ns → 0 < times ns (get_or ns k d)
 next_there [] k d l = absurd (omega arith)
 next_there (m ∷ ns) zero d l = (let e = times-same m ns m (eqb_same m) in omega arith)
@@ -49,8 +49,8 @@ times-among (m ∷ ns) n h = elim (eqb_tells m n) [
   | inr t ↦ (let e = times-other m ns n t.0 in let i = times-among ns n (rw t.0 at h) in omega arith)
 ]
 
--- a number that occurs once has one place
-pub once_at : (ns : List ℕ) (n k d : ℕ) → times ns n ≡ 1 → k < length ns → get_or ns k d ≡ n → place_in ns n ≡ k
+-- a number that occurs once has one index
+pub once_at : (ns : List ℕ) (n k d : ℕ) → times ns n ≡ 1 → k < length ns → get_or ns k d ≡ n → index_in ns n ≡ k
 once_at [] n k d o l e = absurd (omega arith)
 once_at (m ∷ ns) n zero d o l e = rw (eq-eqb m n e) refl
 once_at (m ∷ ns) n (suc k) d o l e = elim (eqb_tells m n) [
@@ -113,7 +113,7 @@ replaced ns k out new n l e ne none once h =
       ]
     ]
 
--- the number at a place is not among the numbers before it, if it is in the list once
+-- the number at an index is not among the numbers before it, if it is in the list once
 pub next_fresh : (ns : List ℕ) (m k d : ℕ) → m ≤ k → k < length ns → times ns (get_or ns k d) ≤ 1 → among (take m ns) (get_or ns k d) ≡ false
 next_fresh ns m k d le l o =
     let z = go ns k l o in

@@ -7,7 +7,7 @@ use Rattle.art_rows.specs.Leaves.{index_of, spot_index}
 use Rattle.art_rows.specs.Filing.{Files}
 use Rattle.art_rows.specs.declared.leaves.Leaf.{Leaf}
 use Rattle.art_rows.specs.declared.row.Position.{Position}
-use Rattle.art_rows.proofs.Ends.{last_place, last_none}
+use Rattle.art_rows.proofs.Ends.{last_index, last_none}
 use Rattle.art_rows.proofs.FilingLemmas.{how_many, none_there}
 use Rattle.art_rows.proofs.Rooms.{no_rows, IsLast, is_last, last_end}
 
@@ -16,10 +16,10 @@ pub is_full : (o : Option (List ℕ)) (n : ℕ) → IfSome o (λ ids. n ≡ leng
 is_full None n len most least = len
 is_full (Some ids) n len most least = omega arith
 
--- a place 0 is after no leaf, so no pairs come before it
-pub in_front : {X Y : Type 0} (prev : Option ℕ) (ps : List (Numbered (X × Y))) (place : ℕ) → IfSome prev (λ _. 0 < place) → place ≡ 0 → spot_index prev ps ≡ 0
-in_front None ps place later z = refl
-in_front (Some i) ps place later z = absurd (omega arith)
+-- index 0 is after no leaf, so no pairs come before it
+pub in_front : {X Y : Type 0} (prev : Option ℕ) (ps : List (Numbered (X × Y))) (index : ℕ) → IfSome prev (λ _. 0 < index) → index ≡ 0 → spot_index prev ps ≡ 0
+in_front None ps index later z = refl
+in_front (Some i) ps index later z = absurd (omega arith)
 
 -- ---- the end of all rows
 
@@ -36,6 +36,6 @@ module _ {K V : Type 0} {leaves : ℕ → Option (Leaf K V)} {rows : List (Numbe
     pub at_last : IsLast rows p
     at_last = is_last rows f.filled (length ps - 1) p at (ap (λ n. n - 1) (sym (how_many f)))
 
-    -- the place after the last leaf is the end of that row
+    -- the index after the last leaf is the end of that row
     pub last_leaf_end : (i : ℕ) → nth (map (λ q. q.0) ps) (length ps - 1) ≡ Some i → index_of ps i + 1 ≡ row_end (Some p.row) rows
-    last_leaf_end i is = ap (λ n. n + 1) (last_place ps i f.distinct is) ∙ last_end at_last f.apart (length ps - 1) (ap (λ n. n - 1) (sym (how_many f)))
+    last_leaf_end i is = ap (λ n. n + 1) (last_index ps i f.distinct is) ∙ last_end at_last f.apart (length ps - 1) (ap (λ n. n - 1) (sym (how_many f)))

@@ -73,20 +73,20 @@ module _ {rows now : List (Numbered (List ℕ))} {row new : ℕ} (c : IsCut rows
       let l = (distinct_parts (c.before ++ (row, take 32 c.ids) ∷ []) c.after (new, drop 32 c.ids) (subst AreDistinct two_is d)).0 in
       ap (λ rs. leaf_in rs new) two_is ∙ leaf_in-split new (drop 32 c.ids) c.after (c.before ++ (row, take 32 c.ids) ∷ []) l
 
-  -- a place in the lower half is in the same place
-  pub cut_below : (k place : ℕ) → k ≡ length (numbers c.before) + place → place ≤ 32 → IsSpot now (record { row = row; place = place }) k
-  cut_below k place index within = record {
+  -- an index in the lower half is the same after the cut
+  pub cut_below : (k index : ℕ) → k ≡ length (numbers c.before) + index → index ≤ 32 → IsSpot now (record { row = row; index = index }) k
+  cut_below k index split within = record {
     before = c.before;
     ids = take 32 c.ids;
     after = (new, drop 32 c.ids) ∷ c.after;
     is = cut_is;
-    index = index;
+    index = split;
     within = (let l = low_len in omega arith);
   }
 
-  -- a place in the upper half is 32 places earlier in the new row
-  pub cut_above : (k place : ℕ) → k ≡ length (numbers c.before) + place → 32 ≤ place → place ≤ length c.ids → IsSpot now (record { row = new; place = place - 32 }) k
-  cut_above k place index least within =
+  -- an index in the upper half is 32 less in the new row
+  pub cut_above : (k index : ℕ) → k ≡ length (numbers c.before) + index → 32 ≤ index → index ≤ length c.ids → IsSpot now (record { row = new; index = index - 32 }) k
+  cut_above k index split least within =
       let n : length (numbers (c.before ++ (row, take 32 c.ids) ∷ [])) ≡ length (numbers c.before) + (length (take 32 c.ids) + 0) = ap length (numbers-append c.before ((row, take 32 c.ids) ∷ [])) ∙ length-append (numbers c.before) (take 32 c.ids ++ []) ∙ ap (λ m. length (numbers c.before) + m) (length-append (take 32 c.ids) []) in
       let f = c.full in
       let l = low_len in
@@ -101,7 +101,7 @@ module _ {rows now : List (Numbered (List ℕ))} {row new : ℕ} (c : IsCut rows
       }
 
   -- a cut and a pair that is then put at a spot take at most one turn together
-  pub cut_put : {p : Position} {k : ℕ} (s : IsSpot now p k) → AreDistinct now → (then : List (Numbered (List ℕ))) (n spare less : ℕ) → less + 1 ≡ spare → IfSome (leaf_in now p.row) (λ ids. then ≡ with_pair now p.row (take p.place ids ++ n ∷ drop p.place ids)) → turns (lengths rows) spare ≤ turns (lengths then) less + 1
+  pub cut_put : {p : Position} {k : ℕ} (s : IsSpot now p k) → AreDistinct now → (then : List (Numbered (List ℕ))) (n spare less : ℕ) → less + 1 ≡ spare → IfSome (leaf_in now p.row) (λ ids. then ≡ with_pair now p.row (take p.index ids ++ n ∷ drop p.index ids)) → turns (lengths rows) spare ≤ turns (lengths then) less + 1
   cut_put s d then n spare less e put =
       let t = rw e at (cut_turns less) in
       let u = spot_put s d then n less put in

@@ -2,9 +2,9 @@
 use Rattle.std.proofs.Common.{◌≡◌, ◌≢◌, ℕ, ◌-◌, List, [], ◌∷◌, ◌++◌, length, map, Some, None, sym, ap, ◌∙◌, refl}
 use Rattle.std.proofs.lemmas.Bool.{ne_eqb, eq-eqb}
 use Rattle.art_rows.specs.Numbers.{Numbered, leaf_in, Has, AreDistinct, last_number, without_number, first_number}
-use Rattle.art_rows.specs.Rows.{nth, place_in}
+use Rattle.art_rows.specs.Rows.{nth, index_in}
 use Rattle.art_rows.proofs.NumbersLemmas.{has_other, Has-last, Has-first, no_first, no_last}
-use Rattle.art_rows.proofs.RowsLemmas.{last_number-nth, place_in-nth, first_number-nth}
+use Rattle.art_rows.proofs.RowsLemmas.{last_number-nth, index_in-nth, first_number-nth}
 
 module _ {X : Type 0} where
   -- ---- the first
@@ -15,9 +15,9 @@ module _ {X : Type 0} where
   pub first_has : (ps : List (Numbered X)) (id : ℕ) → nth (map (λ p. p.0) ps) 0 ≡ Some id → Has ps id
   first_has ps id e = Has-first ps id (first_number-nth ps ∙ e)
 
-  pub first_place : (ps : List (Numbered X)) (id : ℕ) → nth (map (λ p. p.0) ps) 0 ≡ Some id → place_in (map (λ p. p.0) ps) id ≡ 0
-  first_place [] id e = absurd cc
-  first_place (p ∷ ps) id e = let h : p.0 ≡ id = cc in rw (eq-eqb p.0 id h) refl
+  pub first_index : (ps : List (Numbered X)) (id : ℕ) → nth (map (λ p. p.0) ps) 0 ≡ Some id → index_in (map (λ p. p.0) ps) id ≡ 0
+  first_index [] id e = absurd cc
+  first_index (p ∷ ps) id e = let h : p.0 ≡ id = cc in rw (eq-eqb p.0 id h) refl
 
   -- the pairs are the first pair, and the pairs without it
   pub first_off : (ps : List (Numbered X)) (id : ℕ) (x : X) → first_number ps ≡ Some id → leaf_in ps id ≡ Some x → ps ≡ (id, x) ∷ without_number ps id
@@ -36,8 +36,8 @@ module _ {X : Type 0} where
   pub last_none : (ps : List (Numbered X)) → nth (map (λ p. p.0) ps) (length ps - 1) ≡ None → ps ≡ []
   last_none ps e = no_last ps (last_number-nth ps ∙ e)
 
-  pub last_place : (ps : List (Numbered X)) (id : ℕ) → AreDistinct ps → nth (map (λ p. p.0) ps) (length ps - 1) ≡ Some id → place_in (map (λ p. p.0) ps) id ≡ length ps - 1
-  last_place ps id d e = place_in-nth ps (length ps - 1) id d e
+  pub last_index : (ps : List (Numbered X)) (id : ℕ) → AreDistinct ps → nth (map (λ p. p.0) ps) (length ps - 1) ≡ Some id → index_in (map (λ p. p.0) ps) id ≡ length ps - 1
+  last_index ps id d e = index_in-nth ps (length ps - 1) id d e
 
   pub last_has : (ps : List (Numbered X)) (id : ℕ) → nth (map (λ p. p.0) ps) (length ps - 1) ≡ Some id → Has ps id
   last_has ps id e = Has-last ps id (last_number-nth ps ∙ e)

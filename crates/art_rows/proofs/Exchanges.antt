@@ -6,7 +6,7 @@ use Rattle.art_slots.proofs.BlocksOf.{at_block}
 use Rattle.art_rows.specs.Cells.{HaveCells}
 use Rattle.art_rows.proofs.OwnedCells.{own_at, exchanged-row, exchanged-new, exchanged-rows, own_exchanged}
 
--- ---- two lists, exchanged up to a place
+-- ---- two lists, exchanged up to an index
 
 -- the front of one list and the rest of another: the next number of the second is replaced
 mixed-set : (xs ys : List ℕ) (k : ℕ) → k < length xs → k < length ys → set (take k xs ++ drop k ys) k (get_or xs k 0) ≡ take (k + 1) xs ++ drop (k + 1) ys
@@ -14,7 +14,7 @@ mixed-set xs ys k lx ly =
     let t : length (take k xs) ≡ k = length-take-le k xs (omega arith) in
     ap (λ l. set (take k xs ++ l) k (get_or xs k 0)) (drop_more ys k 0 ly) ∙ set_at (take k xs) (get_or ys k 0) (drop (k + 1) ys) (get_or xs k 0) k t ∙ sym (append_assoc (take k xs) (get_or xs k 0 ∷ []) (drop (k + 1) ys)) ∙ ap (λ l. l ++ drop (k + 1) ys) (sym (take_more xs k 0 lx))
 
--- the number at the place is the next of the second
+-- the number at the index is the next of the second
 mixed-get_or : (xs ys : List ℕ) (k : ℕ) → k < length xs → k < length ys → get_or (take k xs ++ drop k ys) k 0 ≡ get_or ys k 0
 mixed-get_or xs ys k lx ly =
     let t : length (take k xs) ≡ k = length-take-le k xs (omega arith) in
@@ -28,13 +28,13 @@ mixed_all xs ys k n e l =
 
 -- ---- one exchange
 
--- the number at a place of a row is less than 64 times the number of rows
-pub place_below : {cells owners : List ℕ} {ready : ℕ} → HaveCells cells owners ready → (r k i n : ℕ) → r < ready → k < 64 → i ≡ 64 * r + k → n ≡ get_or cells i 0 → n < 64 * ready
-place_below {cells = cells} h r k i n l lt e f =
+-- the number at an index of a row is less than 64 times the number of rows
+pub index_below : {cells owners : List ℕ} {ready : ℕ} → HaveCells cells owners ready → (r k i n : ℕ) → r < ready → k < 64 → i ≡ 64 * r + k → n ≡ get_or cells i 0 → n < 64 * ready
+index_below {cells = cells} h r k i n l lt e f =
     let g : n ≡ get_or cells (64 * r + k) 0 = f ∙ ap (λ j. get_or cells j 0) e in
     rw g (own_at h r k l lt).below
 
--- the number at place 32 + k of a row is exchanged for the number at place k of a new row
+-- the number at index 32 + k of a row is exchanged for the number at index k of a new row
 module _ (cells owners : List ℕ) (ready row new k : ℕ) (h : HaveCells cells owners ready) (rl : row < ready) (nl : new < ready) (ne : row ≢ new) (kl : k < 32) (moves other : ℕ) (em : moves ≡ get_or cells (64 * row + 32 + k) 0) (eo : other ≡ get_or cells (64 * new + k) 0) where
   same : 64 * row + 32 + k ≡ 64 * row + (32 + k)
   same = omega arith
@@ -64,7 +64,7 @@ module _ (cells owners : List ℕ) (ready row new k : ℕ) (h : HaveCells cells 
     step_rows j a b = ap (λ l. block_at l j) cells_are ∙ exchanged-rows cells owners ready row new (32 + k) k h rl nl ne il kl64 moves other moves_are eo j a b
 
     -- f and u are the halves that the row had, and ns the numbers that the new row had. They are
-    -- exchanged up to place k
+    -- exchanged up to index k
     module _ (f u ns : List ℕ) (fl : length f ≡ 32) (ul : k < length u) (nsl : k < length ns) (br : block_at cells row ≡ f ++ (take k ns ++ drop k u)) (bn : block_at cells new ≡ take k u ++ drop k ns) where
       -- one more number of the row is exchanged
       pub step_row : block_at cells2 row ≡ f ++ (take (k + 1) ns ++ drop (k + 1) u)

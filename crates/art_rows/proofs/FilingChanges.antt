@@ -62,7 +62,7 @@ module _ {K V : Type 0} {leaves : ℕ → Option (Leaf K V)} {rows : List (Numbe
       }
 
   -- the number of a leaf is removed from its row
-  pub taken_out : (id : ℕ) → Has ps id → (p : Position) → position_at rows (index_of ps id) ≡ Some p → (new : List (Numbered (List ℕ))) → IfSome (leaf_in rows p.row) (λ ids. length ids ≡ 1 → new ≡ without_number rows p.row) → IfSome (leaf_in rows p.row) (λ ids. length ids ≢ 1 → new ≡ with_pair rows p.row (take p.place ids ++ drop (p.place + 1) ids)) → TakesOut rows new (index_of ps id)
+  pub taken_out : (id : ℕ) → Has ps id → (p : Position) → position_at rows (index_of ps id) ≡ Some p → (new : List (Numbered (List ℕ))) → IfSome (leaf_in rows p.row) (λ ids. length ids ≡ 1 → new ≡ without_number rows p.row) → IfSome (leaf_in rows p.row) (λ ids. length ids ≢ 1 → new ≡ with_pair rows p.row (take p.index ids ++ drop (p.index + 1) ids)) → TakesOut rows new (index_of ps id)
   taken_out id has p at new one more =
       let s = standing rows (index_of ps id) p at in
       let r : leaf_in rows p.row ≡ Some s.ids = standing-row rows (index_of ps id) p s f.apart in
@@ -97,9 +97,9 @@ module _ {K V : Type 0} {leaves : ℕ → Option (Leaf K V)} {rows : List (Numbe
 
   module _ (o : Option ℕ) (has : IfSome o (Has ps)) (n : ℕ) (none : leaf_in ps n ≡ None) (k : K) (v : V) where
     -- if a pair is added, with its number in an existing row, the pairs are filed
-    pub files_put : (p : Position) → IsSpot rows p (spot_index o ps) → (new : List (Numbered (List ℕ))) → IfSome (leaf_in rows p.row) (λ ids. new ≡ with_pair rows p.row (take p.place ids ++ n ∷ drop p.place ids)) → (made : ℕ → Option (Leaf K V)) → made n ≡ Some (record { key = k; value = v }) → ((j : ℕ) → j ≢ n → made j ≡ leaves j) → (more : ℕ) → more ≡ count + 1 → Files made new more (with_pair_after o (n, (k, v)) ps)
+    pub files_put : (p : Position) → IsSpot rows p (spot_index o ps) → (new : List (Numbered (List ℕ))) → IfSome (leaf_in rows p.row) (λ ids. new ≡ with_pair rows p.row (take p.index ids ++ n ∷ drop p.index ids)) → (made : ℕ → Option (Leaf K V)) → made n ≡ Some (record { key = k; value = v }) → ((j : ℕ) → j ≢ n → made j ≡ leaves j) → (more : ℕ) → more ≡ count + 1 → Files made new more (with_pair_after o (n, (k, v)) ps)
     files_put p s new put made there rest more one =
-        let e : new ≡ with_pair rows p.row (take p.place s.ids ++ n ∷ drop p.place s.ids) = rw (spot-row rows (spot_index o ps) p s f.apart) at put in
+        let e : new ≡ with_pair rows p.row (take p.index s.ids ++ n ∷ drop p.index s.ids) = rw (spot-row rows (spot_index o ps) p s f.apart) at put in
         files_inserted o n k v has none new (puts_in rows (spot_index o ps) p s f.apart f.filled n new e) made there rest more one
 
     -- if a pair is added, with its number in a new row, the pairs are filed

@@ -3,7 +3,7 @@ use Rattle.std.proofs.Common.{◌≡◌, ℕ, suc, ◌+◌, ◌-◌, ◌<◌, �
 use Rattle.std.specs.Prelude.{option_map, IfSome}
 use Rattle.std.proofs.lemmas.List.{length-map}
 use Rattle.art_rows.specs.Numbers.{Numbered, leaf_in, Has, last_number, number_after, number_before, Lacks, AreDistinct}
-use Rattle.art_rows.specs.Rows.{among, place_in, nth, numbers, row_with, position_at, start_of}
+use Rattle.art_rows.specs.Rows.{among, index_in, nth, numbers, row_with, position_at, start_of}
 use Rattle.art_rows.specs.Leaves.{Leaves, index_of}
 use Rattle.art_rows.specs.Filing.{gather, Files, pairs_in, AllFiled, AllPlaced, content}
 use Rattle.art_slots.specs.Store.{Store, slot_at, used_count}
@@ -11,7 +11,7 @@ use Rattle.art_rows.specs.declared.leaves.Leaf.{Leaf}
 use Rattle.art_rows.specs.declared.leaves.Leaves.TheInside.{Inside}
 use Rattle.art_rows.specs.declared.row.Position.{Position}
 use Rattle.art_rows.proofs.NumbersLemmas.{eqb_same, eqb_other, has_other, split, leaf_in-split, no_last}
-use Rattle.art_rows.proofs.RowsLemmas.{among-numbers, number_after-nth, number_before-first, number_before-nth, before_cases, nth-within, place_in-within, place_in-nth, position-split, position-here, found, standing, standing-row, standing-number, standing-within, standing-after, standing-earlier, standing-first, standing-not_first, standing-row_end, end_of, position-none, position-last, filled-row}
+use Rattle.art_rows.proofs.RowsLemmas.{among-numbers, number_after-nth, number_before-first, number_before-nth, before_cases, nth-within, index_in-within, index_in-nth, position-split, position-here, found, standing, standing-row, standing-number, standing-within, standing-after, standing-earlier, standing-first, standing-not_first, standing-row_end, end_of, position-none, position-last, filled-row}
 
 -- if P implies Q, then `IfSome o P` implies `IfSome o Q`
 pub if_some : {A : Type 0} (o : Option A) (P Q : A → Type 0) → ((x : A) → P x → Q x) → IfSome o P → IfSome o Q
@@ -115,8 +115,8 @@ module _ {K V : Type 0} {leaves : ℕ → Option (Leaf K V)} {rows : List (Numbe
   pub row_has : (i : ℕ) → Has ps i → Has rows (row_with rows i)
   row_has i h = rw (found rows i f.apart (in_rows f i h)).row refl
 
-  -- the position of a number is its row, and its place in that row
-  pub located : (i : ℕ) → Has ps i → (ids : List ℕ) → leaf_in rows (row_with rows i) ≡ Some ids → position_at rows (index_of ps i) ≡ Some (record { row = row_with rows i; place = place_in ids i })
+  -- the position of a number is its row, and its index in that row
+  pub located : (i : ℕ) → Has ps i → (ids : List ℕ) → leaf_in rows (row_with rows i) ≡ Some ids → position_at rows (index_of ps i) ≡ Some (record { row = row_with rows i; index = index_in ids i })
   located i h ids g =
       let s = found rows i f.apart (in_rows f i h) in
       let a : Some ids ≡ Some s.ids = sym g ∙ s.row in
@@ -139,18 +139,18 @@ module _ {K V : Type 0} {leaves : ℕ → Option (Leaf K V)} {rows : List (Numbe
     pub has_row_at : Has rows p.row
     has_row_at = rw row_at refl
 
-    pub if_row_at : IfSome (leaf_in rows p.row) (λ ids. p.place < length ids)
+    pub if_row_at : IfSome (leaf_in rows p.row) (λ ids. p.index < length ids)
     if_row_at = rw row_at (standing rows k p at).within
 
-    -- the place of a position is less than the length of its row
-    pub place_at : (ids : List ℕ) → leaf_in rows p.row ≡ Some ids → p.place < length ids
-    place_at ids g =
+    -- the index of a position is less than the length of its row
+    pub index_at : (ids : List ℕ) → leaf_in rows p.row ≡ Some ids → p.index < length ids
+    index_at ids g =
         let a : Some ids ≡ Some (standing rows k p at).ids = sym g ∙ row_at in
         let b : ids ≡ (standing rows k p at).ids = cc in
         rw b (standing rows k p at).within
 
-    -- the number at a position is the number at the place in its row
-    pub number_there : (ids : List ℕ) → leaf_in rows p.row ≡ Some ids → nth (map (λ q. q.0) ps) k ≡ nth ids p.place
+    -- the number at a position is the number at the index in its row
+    pub number_there : (ids : List ℕ) → leaf_in rows p.row ≡ Some ids → nth (map (λ q. q.0) ps) k ≡ nth ids p.index
     number_there ids g =
         let a : Some ids ≡ Some (standing rows k p at).ids = sym g ∙ row_at in
         let b : ids ≡ (standing rows k p at).ids = cc in
@@ -160,59 +160,59 @@ module _ {K V : Type 0} {leaves : ℕ → Option (Leaf K V)} {rows : List (Numbe
     pub same_ids : (ids : List ℕ) → leaf_in rows p.row ≡ Some ids → (standing rows k p at).ids ≡ ids
     same_ids ids g = (let a : Some ids ≡ Some (standing rows k p at).ids = sym g ∙ row_at in cc)
 
-    -- the next position is the next place in the row, if there is one
-    pub forward_within : (ids : List ℕ) → leaf_in rows p.row ≡ Some ids → p.place + 1 < length ids → position_at rows (k + 1) ≡ Some (record { row = p.row; place = p.place + 1 })
+    -- the next position is the next index in the row, if there is one
+    pub forward_within : (ids : List ℕ) → leaf_in rows p.row ≡ Some ids → p.index + 1 < length ids → position_at rows (k + 1) ≡ Some (record { row = p.row; index = p.index + 1 })
     forward_within ids g w = standing-within rows k p (standing rows k p at) (rw (same_ids ids g) w)
 
     -- if there is none, the next position is the start of the next row
-    pub forward_after : (ids : List ℕ) → leaf_in rows p.row ≡ Some ids → length ids ≤ p.place + 1 → position_at rows (k + 1) ≡ option_map start_of (number_after rows p.row)
+    pub forward_after : (ids : List ℕ) → leaf_in rows p.row ≡ Some ids → length ids ≤ p.index + 1 → position_at rows (k + 1) ≡ option_map start_of (number_after rows p.row)
     forward_after ids g w = standing-after rows k p (standing rows k p at) f.apart f.filled (rw (same_ids ids g) w)
 
-    -- the position before is the place before in the row, if there is one
-    pub backward_within : 0 < p.place → position_at rows (k - 1) ≡ Some (record { row = p.row; place = p.place - 1 })
+    -- the position before is the index before in the row, if there is one
+    pub backward_within : 0 < p.index → position_at rows (k - 1) ≡ Some (record { row = p.row; index = p.index - 1 })
     backward_within w = standing-earlier rows k p (standing rows k p at) w
 
-    pub not_first_within : 0 < p.place → 0 < k
+    pub not_first_within : 0 < p.index → 0 < k
     not_first_within w = (let i = (standing rows k p at).index in omega arith)
 
     -- if there is none, the position before is the end of the row before
-    pub backward_end : p.place ≤ 0 → (r : ℕ) → number_before rows p.row ≡ Some r → (ids : List ℕ) → leaf_in rows r ≡ Some ids → position_at rows (k - 1) ≡ Some (end_of (length ids) r)
+    pub backward_end : p.index ≤ 0 → (r : ℕ) → number_before rows p.row ≡ Some r → (ids : List ℕ) → leaf_in rows r ≡ Some ids → position_at rows (k - 1) ≡ Some (end_of (length ids) r)
     backward_end z r e ids g = standing-row_end rows k p (standing rows k p at) f.apart f.filled r e (omega arith) ids g
 
     pub not_first_end : (r : ℕ) → number_before rows p.row ≡ Some r → 0 < k
     not_first_end r e = standing-not_first rows k p (standing rows k p at) f.apart f.filled r e
 
-    -- at the first place of the first row no number comes before
-    pub backward_none : p.place ≤ 0 → number_before rows p.row ≡ None → k ≡ 0
+    -- at the first index of the first row no number comes before
+    pub backward_none : p.index ≤ 0 → number_before rows p.row ≡ None → k ≡ 0
     backward_none z e = standing-first rows k p (standing rows k p at) f.apart f.filled (omega arith) e
 
   -- the position of a leaf is the position at which its number is found
-  pub stands_there : (i : ℕ) (p : Position) (ids : List ℕ) → leaf_in rows p.row ≡ Some ids → nth ids p.place ≡ Some i → position_at rows (index_of ps i) ≡ Some p
+  pub stands_there : (i : ℕ) (p : Position) (ids : List ℕ) → leaf_in rows p.row ≡ Some ids → nth ids p.index ≡ Some i → position_at rows (index_of ps i) ≡ Some p
   stands_there i p ids g e =
       let h : Has rows p.row = rw g refl in
       let s = split rows p.row h in
       let a : Some s.pair ≡ Some ids = sym (leaf_in-split p.row s.pair s.after s.before s.lacks) ∙ sym (ap (λ rs. leaf_in rs p.row) s.is) ∙ g in
       let b : s.pair ≡ ids = cc in
-      let w : p.place < length s.pair = rw b (nth-within ids p.place i e) in
-      let k : ℕ = length (numbers s.before) + p.place in
-      let at : position_at rows k ≡ Some p = ap (λ rs. position_at rs k) s.is ∙ position-split s.before ((p.row, s.pair) ∷ s.after) p.place ∙ position-here p.row s.pair s.after p.place w in
+      let w : p.index < length s.pair = rw b (nth-within ids p.index i e) in
+      let k : ℕ = length (numbers s.before) + p.index in
+      let at : position_at rows k ≡ Some p = ap (λ rs. position_at rs k) s.is ∙ position-split s.before ((p.row, s.pair) ∷ s.after) p.index ∙ position-here p.row s.pair s.after p.index w in
       let n : nth (map (λ q. q.0) ps) k ≡ Some i = number_there k p at ids g ∙ e in
-      ap (position_at rows) (place_in-nth ps k i f.distinct n) ∙ at
+      ap (position_at rows) (index_in-nth ps k i f.distinct n) ∙ at
 
   -- the number after a leaf in its row is the number of the next leaf
-  pub after_there : (i n : ℕ) → Has ps i → (p : Position) (ids : List ℕ) → leaf_in rows p.row ≡ Some ids → nth ids p.place ≡ Some i → nth ids (p.place + 1) ≡ Some n → number_after ps i ≡ Some n
+  pub after_there : (i n : ℕ) → Has ps i → (p : Position) (ids : List ℕ) → leaf_in rows p.row ≡ Some ids → nth ids p.index ≡ Some i → nth ids (p.index + 1) ≡ Some n → number_after ps i ≡ Some n
   after_there i n h p ids g e b =
       let k : ℕ = index_of ps i in
-      let q : Position = record { row = p.row; place = p.place + 1 } in
-      let at : position_at rows (k + 1) ≡ Some q = forward_within k p (stands_there i p ids g e) ids g (nth-within ids (p.place + 1) n b) in
+      let q : Position = record { row = p.row; index = p.index + 1 } in
+      let at : position_at rows (k + 1) ≡ Some q = forward_within k p (stands_there i p ids g e) ids g (nth-within ids (p.index + 1) n b) in
       number_after-nth ps i h ∙ number_there (k + 1) q at ids g ∙ b
 
   -- the number before a leaf in its row is the number of the leaf before
-  pub before_there : (i n : ℕ) → Has ps i → (p : Position) (ids : List ℕ) → leaf_in rows p.row ≡ Some ids → 0 < p.place → nth ids p.place ≡ Some i → nth ids (p.place - 1) ≡ Some n → number_before ps i ≡ Some n
+  pub before_there : (i n : ℕ) → Has ps i → (p : Position) (ids : List ℕ) → leaf_in rows p.row ≡ Some ids → 0 < p.index → nth ids p.index ≡ Some i → nth ids (p.index - 1) ≡ Some n → number_before ps i ≡ Some n
   before_there i n h p ids g w e b =
       let k : ℕ = index_of ps i in
       let s = stands_there i p ids g e in
-      let q : Position = record { row = p.row; place = p.place - 1 } in
+      let q : Position = record { row = p.row; index = p.index - 1 } in
       let at : position_at rows (k - 1) ≡ Some q = backward_within k p s w in
       let z : 0 < k = not_first_within k p s w in
       let m : k ≡ suc (k - 1) = omega arith in
@@ -234,11 +234,11 @@ module _ {K V : Type 0} {leaves : ℕ → Option (Leaf K V)} {rows : List (Numbe
   pub how_many : length (numbers rows) ≡ length ps
   how_many = sym (ap length f.joined) ∙ length-map ps (λ q. q.0)
 
-  -- a place is less than the number of leaves
-  pub place_below : (i : ℕ) (p : Position) → Has ps i → position_at rows (index_of ps i) ≡ Some p → p.place < count
-  place_below i p h at =
+  -- an index is less than the number of leaves
+  pub index_below : (i : ℕ) (p : Position) → Has ps i → position_at rows (index_of ps i) ≡ Some p → p.index < count
+  index_below i p h at =
       let k = (standing rows (index_of ps i) p at).index in
-      let w : index_of ps i < length (map (λ q. q.0) ps) = place_in-within (map (λ q. q.0) ps) i (among-numbers ps i h) in
+      let w : index_of ps i < length (map (λ q. q.0) ps) = index_in-within (map (λ q. q.0) ps) i (among-numbers ps i h) in
       let n : length (map (λ q. q.0) ps) ≡ length ps = length-map ps (λ q. q.0) in
       let c = f.counted in
       omega arith

@@ -10,14 +10,14 @@ use Rattle.art_rows.specs.Rows.{among}
 use Rattle.art_rows.specs.Cells.{IsOwned, HaveCells}
 use Rattle.art_rows.proofs.Blocks.{next_there, times-among, times-take, times-range, times-range-outside, replaced}
 
--- ---- the cell at a place
+-- ---- the cell at an index
 
 module _ {cells owners : List ℕ} {ready : ℕ} (h : HaveCells cells owners ready) where
   -- the block of a row is within the numbers
   pub own_long : (r : ℕ) → r < ready → 64 * r + 64 ≤ length cells
   own_long r l = omega (arith, h.long)
 
-  -- the number at a place of a row is a number of the row
+  -- the number at an index of a row is a number of the row
   pub own_there : (r k : ℕ) → r < ready → k < 64 → 0 < times (block_at cells r) (get_or cells (64 * r + k) 0)
   own_there r k l lt =
       let b = length-block cells r (own_long r l) in

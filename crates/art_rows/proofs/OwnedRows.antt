@@ -181,7 +181,7 @@ module _ {counts : Numbers ℕ} {cells owners : List ℕ} {ready : ℕ} {now : N
             ap (λ x. among (first_of cells x m) cell) s ∙ ap (among (first_of cells r m)) at ∙ w
       ]
 
-  -- a number at a place of a row is less than 64 times the number of rows that have cells
+  -- a number at an index of a row is less than 64 times the number of rows that have cells
   pub lies_now : (r k cell : ℕ) → r < ready → k < 64 → cell ≡ get_or cells (64 * r + k) 0 → cell < 64 * now.top
   lies_now r k cell rl kl e =
       let t : ready ≡ now.top = ap (λ t. t.top) v in
@@ -239,24 +239,24 @@ module _ {counts : Numbers ℕ} {cells owners : List ℕ} {ready : ℕ} {now : N
     pub to_now : (P : List ℕ → Type 0) → P (first_of cells r count) → IfSome (leaf_in now.pairs r) P
     to_now P h = rw row_now h
 
-    -- after a cell was put at a place
-    pub insert_now : (cells' : List ℕ) (place cell : ℕ) → place ≤ count → count < 64 → cell ≡ get_or cells (64 * r + count) 0 → block_at cells' r ≡ moved_down (block_at cells r) count place → ((j : ℕ) → j ≢ r → block_at cells' j ≡ block_at cells j) → map (cells_of cells') (with_pair counts.pairs r (count + 1)) ≡ with_pair now.pairs r (take place (first_of cells r count) ++ cell ∷ drop place (first_of cells r count))
-    insert_now cells' place cell le lt is moved others =
-        let first = ap (take (count + 1)) moved ∙ take-moved_down (block_at cells r) count place le (omega (arith, length-block cells r row_within)) in
+    -- after a cell was put at an index
+    pub insert_now : (cells' : List ℕ) (index cell : ℕ) → index ≤ count → count < 64 → cell ≡ get_or cells (64 * r + count) 0 → block_at cells' r ≡ moved_down (block_at cells r) count index → ((j : ℕ) → j ≢ r → block_at cells' j ≡ block_at cells j) → map (cells_of cells') (with_pair counts.pairs r (count + 1)) ≡ with_pair now.pairs r (take index (first_of cells r count) ++ cell ∷ drop index (first_of cells r count))
+    insert_now cells' index cell le lt is moved others =
+        let first = ap (take (count + 1)) moved ∙ take-moved_down (block_at cells r) count index le (omega (arith, length-block cells r row_within)) in
         let a : get_or (block_at cells r) count 0 ≡ cell = at_block cells r count lt ∙ sym is in
-        let b : take place (first_of cells r count) ≡ take place (block_at cells r) = take-take place count (block_at cells r) le in
-        let f : first_of cells' r (count + 1) ≡ take place (first_of cells r count) ++ cell ∷ drop place (first_of cells r count) = first ∙ rw (a, b) refl in
-        rows-with_pair cells cells' counts.pairs r (count + 1) (take place (first_of cells r count) ++ cell ∷ drop place (first_of cells r count)) o.distinct others f ∙ ap (λ ps. with_pair ps r (take place (first_of cells r count) ++ cell ∷ drop place (first_of cells r count))) pairs_now
+        let b : take index (first_of cells r count) ≡ take index (block_at cells r) = take-take index count (block_at cells r) le in
+        let f : first_of cells' r (count + 1) ≡ take index (first_of cells r count) ++ cell ∷ drop index (first_of cells r count) = first ∙ rw (a, b) refl in
+        rows-with_pair cells cells' counts.pairs r (count + 1) (take index (first_of cells r count) ++ cell ∷ drop index (first_of cells r count)) o.distinct others f ∙ ap (λ ps. with_pair ps r (take index (first_of cells r count) ++ cell ∷ drop index (first_of cells r count))) pairs_now
 
-    -- after the cell at a place was removed
-    pub remove_now : (cells' : List ℕ) (place : ℕ) → place < count → block_at cells' r ≡ moved_up (block_at cells r) place (count - 1) → ((j : ℕ) → j ≢ r → block_at cells' j ≡ block_at cells j) → map (cells_of cells') (with_pair counts.pairs r (count - 1)) ≡ with_pair now.pairs r (take place (first_of cells r count) ++ drop (place + 1) (first_of cells r count))
-    remove_now cells' place lt moved others =
+    -- after the cell at an index was removed
+    pub remove_now : (cells' : List ℕ) (index : ℕ) → index < count → block_at cells' r ≡ moved_up (block_at cells r) index (count - 1) → ((j : ℕ) → j ≢ r → block_at cells' j ≡ block_at cells j) → map (cells_of cells') (with_pair counts.pairs r (count - 1)) ≡ with_pair now.pairs r (take index (first_of cells r count) ++ drop (index + 1) (first_of cells r count))
+    remove_now cells' index lt moved others =
         let k = o.counted r count e in
-        let first = ap (take (count - 1)) moved ∙ take-moved_up (block_at cells r) place (count - 1) (omega arith) (omega (arith, length-block cells r row_within)) in
+        let first = ap (take (count - 1)) moved ∙ take-moved_up (block_at cells r) index (count - 1) (omega arith) (omega (arith, length-block cells r row_within)) in
         let a : count - 1 + 1 ≡ count = omega arith in
-        let b : take place (first_of cells r count) ≡ take place (block_at cells r) = take-take place count (block_at cells r) (omega arith) in
-        let f : first_of cells' r (count - 1) ≡ take place (first_of cells r count) ++ drop (place + 1) (first_of cells r count) = first ∙ rw (a, b) refl in
-        rows-with_pair cells cells' counts.pairs r (count - 1) (take place (first_of cells r count) ++ drop (place + 1) (first_of cells r count)) o.distinct others f ∙ ap (λ ps. with_pair ps r (take place (first_of cells r count) ++ drop (place + 1) (first_of cells r count))) pairs_now
+        let b : take index (first_of cells r count) ≡ take index (block_at cells r) = take-take index count (block_at cells r) (omega arith) in
+        let f : first_of cells' r (count - 1) ≡ take index (first_of cells r count) ++ drop (index + 1) (first_of cells r count) = first ∙ rw (a, b) refl in
+        rows-with_pair cells cells' counts.pairs r (count - 1) (take index (first_of cells r count) ++ drop (index + 1) (first_of cells r count)) o.distinct others f ∙ ap (λ ps. with_pair ps r (take index (first_of cells r count) ++ drop (index + 1) (first_of cells r count))) pairs_now
 
     -- after the upper half of a full row moved to a new row
     pub cut_now : (cells' : List ℕ) (new : ℕ) → count ≡ 64 → leaf_in counts.pairs new ≡ None → block_at cells' r ≡ take 32 (block_at cells r) ++ take 32 (block_at cells new) → block_at cells' new ≡ drop 32 (block_at cells r) ++ drop 32 (block_at cells new) → ((j : ℕ) → j ≢ r → j ≢ new → block_at cells' j ≡ block_at cells j) → map (cells_of cells') (with_pair (with_pair_after (Some r) (new, 32) counts.pairs) r 32) ≡ with_pair_after (Some r) (new, drop 32 (first_of cells r count)) (with_pair now.pairs r (take 32 (first_of cells r count)))

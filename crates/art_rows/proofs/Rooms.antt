@@ -75,38 +75,38 @@ module _ {rows : List (Numbered (List ℕ))} {k : ℕ} {p : Position} (s : IsSpo
   spot_spare full = spare_full rows p.row s.ids (spot-row rows k p s d) full
 
   -- a number inserted in the row takes at most one turn
-  pub spot_put : (new : List (Numbered (List ℕ))) (n spare : ℕ) → IfSome (leaf_in rows p.row) (λ ids. new ≡ with_pair rows p.row (take p.place ids ++ n ∷ drop p.place ids)) → turns (lengths rows) spare ≤ turns (lengths new) spare + 1
+  pub spot_put : (new : List (Numbered (List ℕ))) (n spare : ℕ) → IfSome (leaf_in rows p.row) (λ ids. new ≡ with_pair rows p.row (take p.index ids ++ n ∷ drop p.index ids)) → turns (lengths rows) spare ≤ turns (lengths new) spare + 1
   spot_put new n spare put =
-      let e = spot_ids (λ ids. new ≡ with_pair rows p.row (take p.place ids ++ n ∷ drop p.place ids)) put in
+      let e = spot_ids (λ ids. new ≡ with_pair rows p.row (take p.index ids ++ n ∷ drop p.index ids)) put in
       let w = s.within in
-      let more : List ℕ = take p.place s.ids ++ n ∷ drop p.place s.ids in
-      let z : length more ≡ length (take p.place s.ids) + suc (length (drop p.place s.ids)) = length-append (take p.place s.ids) (n ∷ drop p.place s.ids) in
-      let t : length (take p.place s.ids) ≡ p.place = length-take-le p.place s.ids w in
-      let q : length (drop p.place s.ids) ≡ length s.ids - p.place = length-drop p.place s.ids in
+      let more : List ℕ = take p.index s.ids ++ n ∷ drop p.index s.ids in
+      let z : length more ≡ length (take p.index s.ids) + suc (length (drop p.index s.ids)) = length-append (take p.index s.ids) (n ∷ drop p.index s.ids) in
+      let t : length (take p.index s.ids) ≡ p.index = length-take-le p.index s.ids w in
+      let q : length (drop p.index s.ids) ≡ length s.ids - p.index = length-drop p.index s.ids in
       let is : new ≡ s.before ++ (p.row, more) ∷ s.after = e ∙ ap (λ rs. with_pair rs p.row more) s.is ∙ with_pair-split p.row s.ids s.after more s.before (spot-lacks rows k p s d).0 in
       let l : length more ≡ suc (length s.ids) = omega arith in
       rw (ap lengths s.is ∙ lengths_at s.before s.after p.row s.ids, ap lengths is ∙ lengths_at s.before s.after p.row more, l) (turns_put (lengths s.before) (lengths s.after) (length s.ids) spare)
 
   -- a spot at the end of its row is the end of the row
-  pub spot_end : p.place ≡ length s.ids → k ≡ row_end (Some p.row) rows
+  pub spot_end : p.index ≡ length s.ids → k ≡ row_end (Some p.row) rows
   spot_end e = (let r = ap (row_end (Some p.row)) s.is ∙ row_end-split s.before s.after p.row s.ids (spot-lacks rows k p s d).0 in let i = s.index in omega arith)
 
   -- if the spot is before all numbers, and its row is full, the first row is full
   pub spot_front : k ≡ 0 → AreFilled rows → length s.ids ≡ 64 → StartsFull (lengths rows)
   spot_front z f full = rw s.is (at_front s.before s.is s.index)
     where
-      at_front : (before : List (Numbered (List ℕ))) → rows ≡ before ++ (p.row, s.ids) ∷ s.after → k ≡ length (numbers before) + p.place → StartsFull (lengths (before ++ (p.row, s.ids) ∷ s.after))
+      at_front : (before : List (Numbered (List ℕ))) → rows ≡ before ++ (p.row, s.ids) ∷ s.after → k ≡ length (numbers before) + p.index → StartsFull (lengths (before ++ (p.row, s.ids) ∷ s.after))
       at_front [] is i = full
       at_front (b ∷ before) is i = absurd (let g : AreFilled (b ∷ (before ++ (p.row, s.ids) ∷ s.after)) = subst AreFilled is f in let h = g.0 in let l = length-append b.1 (numbers before) in omega arith)
 
 -- the end of a row is the start of the next row
-pub spot_next : (rows : List (Numbered (List ℕ))) → AreDistinct rows → (r k next : ℕ) → Has rows r → k ≡ row_end (Some r) rows → number_after rows r ≡ Some next → IsSpot rows (record { row = next; place = 0 }) k
+pub spot_next : (rows : List (Numbered (List ℕ))) → AreDistinct rows → (r k next : ℕ) → Has rows r → k ≡ row_end (Some r) rows → number_after rows r ≡ Some next → IsSpot rows (record { row = next; index = 0 }) k
 spot_next rows d r k next has e after = go (split rows r has).after (split rows r has).is
   where
     c : Split rows r
     c = split rows r has
 
-    go : (rest : List (Numbered (List ℕ))) → rows ≡ c.before ++ (r, c.pair) ∷ rest → IsSpot rows (record { row = next; place = 0 }) k
+    go : (rest : List (Numbered (List ℕ))) → rows ≡ c.before ++ (r, c.pair) ∷ rest → IsSpot rows (record { row = next; index = 0 }) k
     go [] is = absurd (let a : None ≡ Some next = sym (ap (λ rs. number_after rs r) is ∙ number_after-split r c.pair [] c.before c.lacks) ∙ after in cc)
     go (q ∷ rest) is =
         let a : Some q.0 ≡ Some next = sym (ap (λ rs. number_after rs r) is ∙ number_after-split r c.pair (q ∷ rest) c.before c.lacks) ∙ after in
@@ -124,16 +124,16 @@ spot_next rows d r k next has e after = go (split rows r has).after (split rows 
         }
 
 -- the room, after a number was removed from its row
-pub taken_room : (rows : List (Numbered (List ℕ))) (k : ℕ) (p : Position) → position_at rows k ≡ Some p → AreDistinct rows → (new : List (Numbered (List ℕ))) (spare more : ℕ) → IfSome (leaf_in rows p.row) (λ ids. length ids ≡ 1 → new ≡ without_number rows p.row) → IfSome (leaf_in rows p.row) (λ ids. length ids ≢ 1 → new ≡ with_pair rows p.row (take p.place ids ++ drop (p.place + 1) ids)) → IfSome (leaf_in rows p.row) (λ ids. length ids ≡ 1 → more ≡ spare + 1) → IfSome (leaf_in rows p.row) (λ ids. length ids ≢ 1 → more ≡ spare) → row_room (lengths rows) spare ≤ row_room (lengths new) more
+pub taken_room : (rows : List (Numbered (List ℕ))) (k : ℕ) (p : Position) → position_at rows k ≡ Some p → AreDistinct rows → (new : List (Numbered (List ℕ))) (spare more : ℕ) → IfSome (leaf_in rows p.row) (λ ids. length ids ≡ 1 → new ≡ without_number rows p.row) → IfSome (leaf_in rows p.row) (λ ids. length ids ≢ 1 → new ≡ with_pair rows p.row (take p.index ids ++ drop (p.index + 1) ids)) → IfSome (leaf_in rows p.row) (λ ids. length ids ≡ 1 → more ≡ spare + 1) → IfSome (leaf_in rows p.row) (λ ids. length ids ≢ 1 → more ≡ spare) → row_room (lengths rows) spare ≤ row_room (lengths new) more
 taken_room rows k p at d new spare more one two gain keeps =
     let s = standing rows k p at in
     let l = (standing-lacks rows k p s d).0 in
     let r = standing-row rows k p s d in
     let w = s.within in
-    let out : List ℕ = take p.place s.ids ++ drop (p.place + 1) s.ids in
-    let a : length out ≡ length (take p.place s.ids) + length (drop (p.place + 1) s.ids) = length-append (take p.place s.ids) (drop (p.place + 1) s.ids) in
-    let b : length (take p.place s.ids) ≡ p.place = length-take-le p.place s.ids (omega arith) in
-    let c : length (drop (p.place + 1) s.ids) ≡ length s.ids - (p.place + 1) = length-drop (p.place + 1) s.ids in
+    let out : List ℕ = take p.index s.ids ++ drop (p.index + 1) s.ids in
+    let a : length out ≡ length (take p.index s.ids) + length (drop (p.index + 1) s.ids) = length-append (take p.index s.ids) (drop (p.index + 1) s.ids) in
+    let b : length (take p.index s.ids) ≡ p.index = length-take-le p.index s.ids (omega arith) in
+    let c : length (drop (p.index + 1) s.ids) ≡ length s.ids - (p.index + 1) = length-drop (p.index + 1) s.ids in
     let z : length s.ids ≡ suc (length out) = omega arith in
     let was = ap lengths s.is ∙ lengths_at s.before s.after p.row s.ids in
     elim (eqb_tells (length s.ids) 1) [
@@ -160,7 +160,7 @@ pub record IsLast (rows : List (Numbered (List ℕ))) (p : Position) : Type 0 wh
   pub before : List (Numbered (List ℕ))
   pub ids : List ℕ
   pub is : rows ≡ before ++ (p.row, ids) ∷ []
-  pub len : length ids ≡ p.place + 1
+  pub len : length ids ≡ p.index + 1
 
 -- the last position is at the end of the last row
 pub is_last : (rows : List (Numbered (List ℕ))) → AreFilled rows → (k : ℕ) (p : Position) → position_at rows k ≡ Some p → k ≡ length (numbers rows) - 1 → IsLast rows p
@@ -190,20 +190,20 @@ module _ {rows : List (Numbered (List ℕ))} {p : Position} (l : IsLast rows p) 
       omega arith
 
   -- the last row has room for 64 numbers less its length
-  pub last_room : row_end_room (lengths rows) ≡ 64 - (p.place + 1)
+  pub last_room : row_end_room (lengths rows) ≡ 64 - (p.index + 1)
   last_room = ap row_end_room (ap lengths l.is ∙ lengths_at l.before [] p.row l.ids) ∙ row_end_room-last (lengths l.before) (length l.ids) ∙ ap (λ n. 64 - n) l.len
 
   -- with one more number at its end it has room for one number less
-  pub last_put : (new : List (Numbered (List ℕ))) (n : ℕ) → IfSome (leaf_in rows p.row) (λ ids. new ≡ with_pair rows p.row (take (p.place + 1) ids ++ n ∷ drop (p.place + 1) ids)) → row_end_room (lengths new) ≡ 64 - (p.place + 2)
+  pub last_put : (new : List (Numbered (List ℕ))) (n : ℕ) → IfSome (leaf_in rows p.row) (λ ids. new ≡ with_pair rows p.row (take (p.index + 1) ids ++ n ∷ drop (p.index + 1) ids)) → row_end_room (lengths new) ≡ 64 - (p.index + 2)
   last_put new n put =
-      let more : List ℕ = take (p.place + 1) l.ids ++ n ∷ drop (p.place + 1) l.ids in
+      let more : List ℕ = take (p.index + 1) l.ids ++ n ∷ drop (p.index + 1) l.ids in
       let e : new ≡ with_pair rows p.row more = rw last_row at put in
       let is : new ≡ l.before ++ (p.row, more) ∷ [] = e ∙ ap (λ rs. with_pair rs p.row more) l.is ∙ with_pair-split p.row l.ids [] more l.before last_lacks in
       let i = l.len in
-      let z = length-append (take (p.place + 1) l.ids) (n ∷ drop (p.place + 1) l.ids) in
-      let t = length-take-le (p.place + 1) l.ids (omega arith) in
-      let q = length-drop (p.place + 1) l.ids in
-      let m : length more ≡ p.place + 2 = omega arith in
+      let z = length-append (take (p.index + 1) l.ids) (n ∷ drop (p.index + 1) l.ids) in
+      let t = length-take-le (p.index + 1) l.ids (omega arith) in
+      let q = length-drop (p.index + 1) l.ids in
+      let m : length more ≡ p.index + 2 = omega arith in
       ap row_end_room (ap lengths is ∙ lengths_at l.before [] p.row more) ∙ row_end_room-last (lengths l.before) (length more) ∙ ap (λ n. 64 - n) m
 
   -- with a row of one number after it there is room for 63 numbers

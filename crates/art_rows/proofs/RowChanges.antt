@@ -5,7 +5,7 @@ use Rattle.std.proofs.lemmas.Bool.Decides.{eqb_tells}
 use Rattle.std.proofs.lemmas.List.{length-append, take-append-le, drop-append-le, length-take-le, length-drop, nil_from_length}
 use Rattle.std.proofs.Math.Seq.{take-append-add, drop-append-add}
 use Rattle.art_rows.specs.Numbers.{Numbered, leaf_in, Has, with_pair_after, without_number, with_pair, Lacks, AreDistinct}
-use Rattle.art_rows.specs.Rows.{place_in, numbers, position_at, AreFilled, IsSpot, row_end}
+use Rattle.art_rows.specs.Rows.{index_in, numbers, position_at, AreFilled, IsSpot, row_end}
 use Rattle.art_rows.specs.declared.row.Position.{Position}
 use Rattle.art_rows.proofs.NumbersLemmas.{Has-tail, with_pair-split, without_number-split, same_distinct, numbers-with_pair, AreDistinct-without_number, distinct_parts, leaf_in-split, AreDistinct-with_pair_after, Lacks-from_leaf_in}
 use Rattle.art_rows.proofs.RowsLemmas.{numbers-append, AreFilled-parts, AreFilled-append, Standing, standing, position-first, standing-numbers, standing-lacks}
@@ -19,14 +19,14 @@ module _ {X : Type 0} (xs ys zs : List X) (j : ℕ) (le : j ≤ length ys) where
   drop-middle = drop-append-add xs (ys ++ zs) j ∙ drop-append-le j ys zs le
 
 module _ {X : Type 0} where
-  -- the numbers, without the number at its place
-  pub numbers-without : (ps : List (Numbered X)) (i : ℕ) → Has ps i → map (λ p. p.0) (without_number ps i) ≡ take (place_in (map (λ p. p.0) ps) i) (map (λ p. p.0) ps) ++ drop (place_in (map (λ p. p.0) ps) i + 1) (map (λ p. p.0) ps)
+  -- the numbers, without the number at its index
+  pub numbers-without : (ps : List (Numbered X)) (i : ℕ) → Has ps i → map (λ p. p.0) (without_number ps i) ≡ take (index_in (map (λ p. p.0) ps) i) (map (λ p. p.0) ps) ++ drop (index_in (map (λ p. p.0) ps) i + 1) (map (λ p. p.0) ps)
   numbers-without [] i h = absurd (let f : false ≡ true = h in cc)
   numbers-without (p ∷ ps) i h = elim (eqb_tells p.0 i) [
     | inl t ↦ rw t.0 refl
     | inr t ↦
         rw t.0
-        (ap (λ l. p.0 ∷ l) (numbers-without ps i (Has-tail p ps i t.1 h)) ∙ step p.0 (map (λ p. p.0) ps) (place_in (map (λ p. p.0) ps) i))
+        (ap (λ l. p.0 ∷ l) (numbers-without ps i (Has-tail p ps i t.1 h)) ∙ step p.0 (map (λ p. p.0) ps) (index_in (map (λ p. p.0) ps) i))
   ]
     where
       step : (m : ℕ) (ns : List ℕ) (k : ℕ) → m ∷ (take k ns ++ drop (k + 1) ns) ≡ m ∷ take k ns ++ drop (suc k + 1) (m ∷ ns)
@@ -43,22 +43,22 @@ module _ (rows : List (Numbered (List ℕ))) (k : ℕ) (p : Position) (s : Stand
   parts = AreFilled-parts s.before ((p.row, s.ids) ∷ s.after) (subst AreFilled s.is f)
 
   -- the numbers without it
-  less : take k (numbers rows) ++ drop (k + 1) (numbers rows) ≡ numbers s.before ++ ((take p.place s.ids ++ drop (p.place + 1) s.ids) ++ numbers s.after)
+  less : take k (numbers rows) ++ drop (k + 1) (numbers rows) ≡ numbers s.before ++ ((take p.index s.ids ++ drop (p.index + 1) s.ids) ++ numbers s.after)
   less =
       let w = s.within in
-      let e : length (numbers s.before) + p.place + 1 ≡ length (numbers s.before) + (p.place + 1) = omega arith in
-      rw (standing-numbers rows k p s, s.index, e, take-middle (numbers s.before) s.ids (numbers s.after) p.place (omega arith), drop-middle (numbers s.before) s.ids (numbers s.after) (p.place + 1) (omega arith)) (simp append_assoc)
+      let e : length (numbers s.before) + p.index + 1 ≡ length (numbers s.before) + (p.index + 1) = omega arith in
+      rw (standing-numbers rows k p s, s.index, e, take-middle (numbers s.before) s.ids (numbers s.after) p.index (omega arith), drop-middle (numbers s.before) s.ids (numbers s.after) (p.index + 1) (omega arith)) (simp append_assoc)
 
   -- the rows without one number, if other numbers are left in its row
-  pub takes_more : length s.ids ≢ 1 → (new : List (Numbered (List ℕ))) → new ≡ with_pair rows p.row (take p.place s.ids ++ drop (p.place + 1) s.ids) → TakesOut rows new k
+  pub takes_more : length s.ids ≢ 1 → (new : List (Numbered (List ℕ))) → new ≡ with_pair rows p.row (take p.index s.ids ++ drop (p.index + 1) s.ids) → TakesOut rows new k
   takes_more ne new e =
-      let out : List ℕ = take p.place s.ids ++ drop (p.place + 1) s.ids in
+      let out : List ℕ = take p.index s.ids ++ drop (p.index + 1) s.ids in
       let w = s.within in
       let is : new ≡ s.before ++ (p.row, out) ∷ s.after = e ∙ ap (λ rs. with_pair rs p.row out) s.is ∙ with_pair-split p.row s.ids s.after out s.before (standing-lacks rows k p s d).0 in
-      let a : length out ≡ length (take p.place s.ids) + length (drop (p.place + 1) s.ids) = length-append (take p.place s.ids) (drop (p.place + 1) s.ids) in
-      let b : length (take p.place s.ids) ≡ p.place = length-take-le p.place s.ids (omega arith) in
-      let c : length (drop (p.place + 1) s.ids) ≡ length s.ids - (p.place + 1) = length-drop (p.place + 1) s.ids in
-      let z : 0 < length out = two (length s.ids) p.place (length out) ne w (omega arith) in
+      let a : length out ≡ length (take p.index s.ids) + length (drop (p.index + 1) s.ids) = length-append (take p.index s.ids) (drop (p.index + 1) s.ids) in
+      let b : length (take p.index s.ids) ≡ p.index = length-take-le p.index s.ids (omega arith) in
+      let c : length (drop (p.index + 1) s.ids) ≡ length s.ids - (p.index + 1) = length-drop (p.index + 1) s.ids in
+      let z : 0 < length out = two (length s.ids) p.index (length out) ne w (omega arith) in
       rw is (record {
         joined = numbers-append s.before ((p.row, out) ∷ s.after) ∙ sym less;
         filled = AreFilled-append s.before ((p.row, out) ∷ s.after) parts.0 (z, parts.1.1);
@@ -73,12 +73,12 @@ module _ (rows : List (Numbered (List ℕ))) (k : ℕ) (p : Position) (s : Stand
   -- the rows without one number, if it was the only number in its row
   pub takes_one : length s.ids ≡ 1 → (new : List (Numbered (List ℕ))) → new ≡ without_number rows p.row → TakesOut rows new k
   takes_one one new e =
-      let out : List ℕ = take p.place s.ids ++ drop (p.place + 1) s.ids in
+      let out : List ℕ = take p.index s.ids ++ drop (p.index + 1) s.ids in
       let w = s.within in
       let is : new ≡ s.before ++ s.after = e ∙ ap (λ rs. without_number rs p.row) s.is ∙ without_number-split p.row s.ids s.after s.before (standing-lacks rows k p s d).0 in
-      let a : length out ≡ length (take p.place s.ids) + length (drop (p.place + 1) s.ids) = length-append (take p.place s.ids) (drop (p.place + 1) s.ids) in
-      let b : length (take p.place s.ids) ≡ p.place = length-take-le p.place s.ids (omega arith) in
-      let c : length (drop (p.place + 1) s.ids) ≡ length s.ids - (p.place + 1) = length-drop (p.place + 1) s.ids in
+      let a : length out ≡ length (take p.index s.ids) + length (drop (p.index + 1) s.ids) = length-append (take p.index s.ids) (drop (p.index + 1) s.ids) in
+      let b : length (take p.index s.ids) ≡ p.index = length-take-le p.index s.ids (omega arith) in
+      let c : length (drop (p.index + 1) s.ids) ≡ length s.ids - (p.index + 1) = length-drop (p.index + 1) s.ids in
       let z : out ≡ [] = nil_from_length out (omega arith) in
       rw is (record {
         joined = numbers-append s.before s.after ∙ ap (λ l. numbers s.before ++ (l ++ numbers s.after)) (sym z) ∙ sym less;
@@ -106,16 +106,16 @@ module _ (rows : List (Numbered (List ℕ))) (k : ℕ) (p : Position) (s : IsSpo
 
   module _ (f : AreFilled rows) (n : ℕ) where
     -- the rows with the number in the row
-    pub puts_in : (new : List (Numbered (List ℕ))) → new ≡ with_pair rows p.row (take p.place s.ids ++ n ∷ drop p.place s.ids) → PutsIn rows new k n
+    pub puts_in : (new : List (Numbered (List ℕ))) → new ≡ with_pair rows p.row (take p.index s.ids ++ n ∷ drop p.index s.ids) → PutsIn rows new k n
     puts_in new e =
-        let more : List ℕ = take p.place s.ids ++ n ∷ drop p.place s.ids in
+        let more : List ℕ = take p.index s.ids ++ n ∷ drop p.index s.ids in
         let w = s.within in
         let is : new ≡ s.before ++ (p.row, more) ∷ s.after = e ∙ ap (λ rs. with_pair rs p.row more) s.is ∙ with_pair-split p.row s.ids s.after more s.before spot-lacks.0 in
         let g = AreFilled-parts s.before ((p.row, s.ids) ∷ s.after) (subst AreFilled s.is f) in
-        let z : length more ≡ length (take p.place s.ids) + suc (length (drop p.place s.ids)) = length-append (take p.place s.ids) (n ∷ drop p.place s.ids) in
+        let z : length more ≡ length (take p.index s.ids) + suc (length (drop p.index s.ids)) = length-append (take p.index s.ids) (n ∷ drop p.index s.ids) in
         rw is (record {
           joined =
-              numbers-append s.before ((p.row, more) ∷ s.after) ∙ sym (rw (spot-numbers, s.index, take-middle (numbers s.before) s.ids (numbers s.after) p.place w, drop-middle (numbers s.before) s.ids (numbers s.after) p.place w) (simp append_assoc));
+              numbers-append s.before ((p.row, more) ∷ s.after) ∙ sym (rw (spot-numbers, s.index, take-middle (numbers s.before) s.ids (numbers s.after) p.index w, drop-middle (numbers s.before) s.ids (numbers s.after) p.index w) (simp append_assoc));
           filled = AreFilled-append s.before ((p.row, more) ∷ s.after) g.0 (omega arith, g.1.1);
           apart = rw (← is, e) (same_distinct rows (with_pair rows p.row more) (sym (numbers-with_pair rows p.row more)) d);
         })
@@ -164,5 +164,5 @@ first_none (r ∷ rs) f None e = (let g = e ∙ position-first (r ∷ rs) f in a
 first_none rows f (Some p) e = tt
 
 -- after a position there is a spot
-pub spot_after : (rows : List (Numbered (List ℕ))) (k : ℕ) (p : Position) → position_at rows k ≡ Some p → IsSpot rows (record { row = p.row; place = p.place + 1 }) (k + 1)
+pub spot_after : (rows : List (Numbered (List ℕ))) (k : ℕ) (p : Position) → position_at rows k ≡ Some p → IsSpot rows (record { row = p.row; index = p.index + 1 }) (k + 1)
 spot_after rows k p e = (let s = standing rows k p e in record { before = s.before; ids = s.ids; after = s.after; is = s.is; index = let i = s.index in omega arith; within = let w = s.within in omega arith })

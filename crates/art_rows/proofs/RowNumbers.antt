@@ -4,9 +4,9 @@ use Rattle.std.proofs.lemmas.Bool.Decides.{eqb_tells}
 use Rattle.std.proofs.lemmas.List.{get_or-take, length-take-le, take-append-drop, drop-take, nil_from_length}
 use Rattle.art_slots.specs.Words.{times, numbers as words}
 use Rattle.art_rows.specs.Cells.{IsRow}
-use Rattle.art_rows.specs.Rows.{among, place_in, nth}
+use Rattle.art_rows.specs.Rows.{among, index_in, nth}
 use Rattle.art_rows.proofs.Blocks.{times-take, next_there, times-among}
-use Rattle.art_rows.proofs.RowsLemmas.{place_in-append_in}
+use Rattle.art_rows.proofs.RowsLemmas.{index_in-append_in}
 
 -- there are as many numbers as low halves
 pub length-words : (low high : List ℕ) → length (words low high) ≡ length low
@@ -33,24 +33,24 @@ words-low (x ∷ low) [] k h = refl
 words-low (x ∷ low) (y ∷ high) zero h = absurd (omega arith)
 words-low (x ∷ low) (y ∷ high) (suc k) h = words-low low high k (omega arith)
 
--- the number at a place of a list
+-- the number at an index of a list
 pub nth-get_or : (ns : List ℕ) (k d : ℕ) → k < length ns → nth ns k ≡ Some (get_or ns k d)
 nth-get_or [] k d l = absurd (omega arith)
 nth-get_or (n ∷ ns) zero d l = refl
 nth-get_or (n ∷ ns) (suc k) d l = nth-get_or ns k d (omega arith)
 
--- the number at the place of a number is that number
-pub at_place : (ns : List ℕ) (n d : ℕ) → among ns n ≡ true → get_or ns (place_in ns n) d ≡ n
-at_place [] n d h = (let f : false ≡ true = h in absurd cc)
-at_place (m ∷ ns) n d h = elim (eqb_tells m n) [
+-- the number at the index of a number is that number
+pub at_index : (ns : List ℕ) (n d : ℕ) → among ns n ≡ true → get_or ns (index_in ns n) d ≡ n
+at_index [] n d h = (let f : false ≡ true = h in absurd cc)
+at_index (m ∷ ns) n d h = elim (eqb_tells m n) [
   | inl t ↦ rw t.0 t.1
-  | inr t ↦ rw t.0 (at_place ns n d (rw t.0 at h))
+  | inr t ↦ rw t.0 (at_index ns n d (rw t.0 at h))
 ]
 
--- the first numbers have the same place among all
-pub place_in-take : (ns : List ℕ) (k n : ℕ) → among (take k ns) n ≡ true → place_in ns n ≡ place_in (take k ns) n
-place_in-take ns k n h =
-    ap (λ l. place_in l n) (sym (take-append-drop k ns)) ∙ place_in-append_in (take k ns) (drop k ns) n h
+-- the first numbers have the same index among all
+pub index_in-take : (ns : List ℕ) (k n : ℕ) → among (take k ns) n ≡ true → index_in ns n ≡ index_in (take k ns) n
+index_in-take ns k n h =
+    ap (λ l. index_in l n) (sym (take-append-drop k ns)) ∙ index_in-append_in (take k ns) (drop k ns) n h
 
 module _ {low high : List ℕ} {count : ℕ} {ns : List ℕ} (r : IsRow low high count) (v : take count (words low high) ≡ ns) where
   -- the number of cells in use is the length of the list that a contract sees
@@ -60,7 +60,7 @@ module _ {low high : List ℕ} {count : ℕ} {ns : List ℕ} (r : IsRow low high
       let l : length (take count (words low high)) ≡ count = length-take-le count (words low high) (omega (arith, r.long, r.within)) in
       sym (ap length v) ∙ l
 
-  -- the number at a place is small, and a contract sees it there
+  -- the number at an index is small, and a contract sees it there
   pub row_number : (k : ℕ) → k < length ns → (n : ℕ) → n ≡ get_or (words low high) k 0 → (n < 2 ^ 61) × (nth ns k ≡ Some n)
   row_number k l n e =
       let w = length-words low high in
@@ -70,7 +70,7 @@ module _ {low high : List ℕ} {count : ℕ} {ns : List ℕ} (r : IsRow low high
       let f : get_or ns k 0 ≡ n = ap (λ l. get_or l k 0) (sym v) ∙ g ∙ sym e in
       (omega arith, nth-get_or ns k 0 l ∙ ap Some f)
 
-  -- a number that a contract sees is at one place of the row
+  -- a number that a contract sees is at one index of the row
   pub row_once : (n : ℕ) → among ns n ≡ true → times (words low high) n ≡ 1
   row_once n h =
       let a : among (take count (words low high)) n ≡ true = ap (λ l. among l n) v ∙ h in
@@ -79,26 +79,26 @@ module _ {low high : List ℕ} {count : ℕ} {ns : List ℕ} (r : IsRow low high
       let o = r.once n in
       omega arith
 
-  -- its place among all numbers is its place in the list that a contract sees
-  pub row_place : (n : ℕ) → among ns n ≡ true → place_in (words low high) n ≡ place_in ns n
-  row_place n h =
+  -- its index among all numbers is its index in the list that a contract sees
+  pub row_index : (n : ℕ) → among ns n ≡ true → index_in (words low high) n ≡ index_in ns n
+  row_index n h =
       let a : among (take count (words low high)) n ≡ true = ap (λ l. among l n) v ∙ h in
-      place_in-take (words low high) count n a ∙ ap (λ l. place_in l n) v
+      index_in-take (words low high) count n a ∙ ap (λ l. index_in l n) v
 
 -- with no high halves, the numbers in use are the first low halves
 module _ {low high : List ℕ} {count : ℕ} {ns : List ℕ} (r : IsRow low high count) (v : take count (words low high) ≡ ns) (z : length high ≡ 0) where
   low_words : words low high ≡ low
   low_words = ap (words low) (nil_from_length high z) ∙ words-none low
 
-  -- a number that a contract sees is at one place of the low halves
+  -- a number that a contract sees is at one index of the low halves
   pub low_once : (n : ℕ) → among ns n ≡ true → times low n ≡ 1
   low_once n h = ap (λ l. times l n) (sym low_words) ∙ row_once r v n h
 
-  -- its place among the low halves is its place in the list that a contract sees
-  pub low_place : (n : ℕ) → among ns n ≡ true → place_in low n ≡ place_in ns n
-  low_place n h = ap (λ l. place_in l n) (sym low_words) ∙ row_place r v n h
+  -- its index among the low halves is its index in the list that a contract sees
+  pub low_index : (n : ℕ) → among ns n ≡ true → index_in low n ≡ index_in ns n
+  low_index n h = ap (λ l. index_in l n) (sym low_words) ∙ row_index r v n h
 
-  -- the numbers after a place
+  -- the numbers after an index
   pub low_after : (k : ℕ) → k < length ns → take (count - (k + 1)) (drop (k + 1) low) ≡ drop (k + 1) ns
   low_after k h =
       let c = row_len r v in

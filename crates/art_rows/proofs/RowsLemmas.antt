@@ -6,7 +6,7 @@ use Rattle.std.specs.Option.{option_or}
 use Rattle.std.proofs.lemmas.Bool.Decides.{eqb_tells, nat_tests}
 use Rattle.std.proofs.lemmas.List.{length-append}
 use Rattle.art_rows.specs.Numbers.{Numbered, leaf_in, Has, first_number, last_number, number_after, number_before, number_before_from, Lacks, AreDistinct}
-use Rattle.art_rows.specs.Rows.{among, place_in, nth, numbers, row_with, position_at, AreFilled, start_of}
+use Rattle.art_rows.specs.Rows.{among, index_in, nth, numbers, row_with, position_at, AreFilled, start_of}
 use Rattle.art_rows.specs.declared.row.Position.{Position}
 use Rattle.art_rows.proofs.NumbersLemmas.{eqb_same, eqb_other, has_other, Has-last, leaf_in-append, AreDistinct-parts, distinct_parts, leaf_in-split, number_after-split, number_before-split, no_last}
 
@@ -16,29 +16,29 @@ pub among-append : (xs ys : List ℕ) (i : ℕ) → among (xs ++ ys) i ≡ cond 
 among-append [] ys i = refl
 among-append (x ∷ xs) ys i = elim (eqb_tells x i) [ inl t ↦ rw t.0 refl | inr t ↦ rw t.0 (among-append xs ys i) ]
 
-pub place_in-append_in : (xs ys : List ℕ) (i : ℕ) → among xs i ≡ true → place_in (xs ++ ys) i ≡ place_in xs i
-place_in-append_in [] ys i h = (let f : false ≡ true = h in absurd cc)
-place_in-append_in (x ∷ xs) ys i h = elim (eqb_tells x i) [ inl t ↦ rw t.0 refl | inr t ↦ rw t.0 (ap suc (place_in-append_in xs ys i (rw t.0 at h))) ]
+pub index_in-append_in : (xs ys : List ℕ) (i : ℕ) → among xs i ≡ true → index_in (xs ++ ys) i ≡ index_in xs i
+index_in-append_in [] ys i h = (let f : false ≡ true = h in absurd cc)
+index_in-append_in (x ∷ xs) ys i h = elim (eqb_tells x i) [ inl t ↦ rw t.0 refl | inr t ↦ rw t.0 (ap suc (index_in-append_in xs ys i (rw t.0 at h))) ]
 
-pub place_in-append_out : (xs ys : List ℕ) (i : ℕ) → among xs i ≡ false → place_in (xs ++ ys) i ≡ length xs + place_in ys i
-place_in-append_out [] ys i h = omega arith
-place_in-append_out (x ∷ xs) ys i h = elim (eqb_tells x i) [
+pub index_in-append_out : (xs ys : List ℕ) (i : ℕ) → among xs i ≡ false → index_in (xs ++ ys) i ≡ length xs + index_in ys i
+index_in-append_out [] ys i h = omega arith
+index_in-append_out (x ∷ xs) ys i h = elim (eqb_tells x i) [
   | inl t ↦ (let f : true ≡ false = rw t.0 at h in absurd cc)
-  | inr t ↦ rw t.0 (let r = place_in-append_out xs ys i (rw t.0 at h) in omega arith)
+  | inr t ↦ rw t.0 (let r = index_in-append_out xs ys i (rw t.0 at h) in omega arith)
 ]
 
-pub place_in-within : (xs : List ℕ) (i : ℕ) → among xs i ≡ true → place_in xs i < length xs
-place_in-within [] i h = (let f : false ≡ true = h in absurd cc)
-place_in-within (x ∷ xs) i h = elim (eqb_tells x i) [
+pub index_in-within : (xs : List ℕ) (i : ℕ) → among xs i ≡ true → index_in xs i < length xs
+index_in-within [] i h = (let f : false ≡ true = h in absurd cc)
+index_in-within (x ∷ xs) i h = elim (eqb_tells x i) [
   | inl t ↦ rw t.0 (omega arith)
-  | inr t ↦ rw t.0 (let r = place_in-within xs i (rw t.0 at h) in omega arith)
+  | inr t ↦ rw t.0 (let r = index_in-within xs i (rw t.0 at h) in omega arith)
 ]
 
-pub nth-place : (xs : List ℕ) (i : ℕ) → among xs i ≡ true → nth xs (place_in xs i) ≡ Some i
-nth-place [] i h = (let f : false ≡ true = h in absurd cc)
-nth-place (x ∷ xs) i h = elim (eqb_tells x i) [
+pub nth-index : (xs : List ℕ) (i : ℕ) → among xs i ≡ true → nth xs (index_in xs i) ≡ Some i
+nth-index [] i h = (let f : false ≡ true = h in absurd cc)
+nth-index (x ∷ xs) i h = elim (eqb_tells x i) [
   | inl t ↦ rw t.0 (ap Some t.1)
-  | inr t ↦ rw t.0 (nth-place xs i (rw t.0 at h))
+  | inr t ↦ rw t.0 (nth-index xs i (rw t.0 at h))
 ]
 
 pub nth-append_left : {X : Type 0} (xs ys : List X) (k : ℕ) → k < length xs → nth (xs ++ ys) k ≡ nth xs k
@@ -55,7 +55,7 @@ nth-within [] k n h = absurd cc
 nth-within (x ∷ xs) zero n h = omega arith
 nth-within (x ∷ xs) (suc k) n h = omega (arith, nth-within xs k n h)
 
--- a number at a place is in the list
+-- a number at an index is in the list
 pub among-nth : (ns : List ℕ) (k n : ℕ) → nth ns k ≡ Some n → among ns n ≡ true
 among-nth [] k n e = absurd cc
 among-nth (m ∷ ns) zero n e = (let f : m ≡ n = cc in rw (f, eqb_same n) refl)
@@ -71,59 +71,59 @@ module _ {X : Type 0} where
   Has-among [] i h = h
   Has-among (p ∷ ps) i h = elim (eqb_tells p.0 i) [ inl t ↦ rw t.0 refl | inr t ↦ rw t.0 (Has-among ps i (rw t.0 at h)) ]
 
-  -- the place of the number at a place is that place
-  pub place_in-nth : (ps : List (Numbered X)) (k n : ℕ) → AreDistinct ps → nth (map (λ p. p.0) ps) k ≡ Some n → place_in (map (λ p. p.0) ps) n ≡ k
-  place_in-nth [] k n d e = absurd cc
-  place_in-nth (p ∷ ps) zero n d e = (let f : p.0 ≡ n = cc in rw (f, eqb_same n) refl)
-  place_in-nth (p ∷ ps) (suc k) n d e =
+  -- the index of the number at an index is that index
+  pub index_in-nth : (ps : List (Numbered X)) (k n : ℕ) → AreDistinct ps → nth (map (λ p. p.0) ps) k ≡ Some n → index_in (map (λ p. p.0) ps) n ≡ k
+  index_in-nth [] k n d e = absurd cc
+  index_in-nth (p ∷ ps) zero n d e = (let f : p.0 ≡ n = cc in rw (f, eqb_same n) refl)
+  index_in-nth (p ∷ ps) (suc k) n d e =
       let h : Has ps n = Has-among ps n (among-nth (map (λ p. p.0) ps) k n e) in
       let m : eqb p.0 n ≡ false = eqb_other p.0 n (λ t. has_other ps n p.0 h d.0 (sym t)) in
-      rw m (ap suc (place_in-nth ps k n d.1 e))
+      rw m (ap suc (index_in-nth ps k n d.1 e))
 
-  -- the first number is the number at place 0
+  -- the first number is the number at index 0
   pub first_number-nth : (ps : List (Numbered X)) → first_number ps ≡ nth (map (λ p. p.0) ps) 0
   first_number-nth [] = refl
   first_number-nth (p ∷ ps) = refl
 
-  -- the number after a number is the number at the next place
-  pub number_after-nth : (ps : List (Numbered X)) (i : ℕ) → Has ps i → number_after ps i ≡ nth (map (λ p. p.0) ps) (place_in (map (λ p. p.0) ps) i + 1)
+  -- the number after a number is the number at the next index
+  pub number_after-nth : (ps : List (Numbered X)) (i : ℕ) → Has ps i → number_after ps i ≡ nth (map (λ p. p.0) ps) (index_in (map (λ p. p.0) ps) i + 1)
   number_after-nth [] i h = (let f : false ≡ true = h in absurd cc)
   number_after-nth (p ∷ ps) i h = elim (eqb_tells p.0 i) [
     | inl t ↦ rw t.0 (first_number-nth ps)
-    | inr t ↦ rw t.0 (number_after-nth ps i (rw t.0 at h) ∙ step (p.0) (map (λ p. p.0) ps) (place_in (map (λ p. p.0) ps) i))
+    | inr t ↦ rw t.0 (number_after-nth ps i (rw t.0 at h) ∙ step (p.0) (map (λ p. p.0) ps) (index_in (map (λ p. p.0) ps) i))
   ]
     where
       step : (n : ℕ) (ns : List ℕ) (k : ℕ) → nth ns (k + 1) ≡ nth (n ∷ ns) (suc k + 1)
       step n ns k = (let e : suc k + 1 ≡ suc (k + 1) = omega arith in sym (ap (nth (n ∷ ns)) e))
 
-  -- the number before a number, from the start `a` on, by its place
-  number_before_from-nth : (a : ℕ) (ps : List (Numbered X)) (i : ℕ) → Has ps i → number_before_from (Some a) ps i ≡ nth (a ∷ map (λ p. p.0) ps) (place_in (map (λ p. p.0) ps) i)
+  -- the number before a number, from the start `a` on, by its index
+  number_before_from-nth : (a : ℕ) (ps : List (Numbered X)) (i : ℕ) → Has ps i → number_before_from (Some a) ps i ≡ nth (a ∷ map (λ p. p.0) ps) (index_in (map (λ p. p.0) ps) i)
   number_before_from-nth a [] i h = (let f : false ≡ true = h in absurd cc)
   number_before_from-nth a (p ∷ ps) i h = elim (eqb_tells p.0 i) [
     | inl t ↦ rw t.0 refl
     | inr t ↦ rw t.0 (number_before_from-nth p.0 ps i (rw t.0 at h))
   ]
 
-  -- the number before a number is the number at the place before
-  pub number_before-nth : (b : Option ℕ) (ps : List (Numbered X)) (i k : ℕ) → Has ps i → place_in (map (λ p. p.0) ps) i ≡ suc k → number_before_from b ps i ≡ nth (map (λ p. p.0) ps) k
+  -- the number before a number is the number at the index before
+  pub number_before-nth : (b : Option ℕ) (ps : List (Numbered X)) (i k : ℕ) → Has ps i → index_in (map (λ p. p.0) ps) i ≡ suc k → number_before_from b ps i ≡ nth (map (λ p. p.0) ps) k
   number_before-nth b [] i k h e = (let f : false ≡ true = h in absurd cc)
   number_before-nth b (p ∷ ps) i k h e = elim (eqb_tells p.0 i) [
     | inl t ↦ (let f : 0 ≡ suc k = rw t.0 at e in absurd (omega arith))
     | inr t ↦
-        let f : suc (place_in (map (λ p. p.0) ps) i) ≡ suc k = rw t.0 at e in
-        let g : place_in (map (λ p. p.0) ps) i ≡ k = omega arith in
+        let f : suc (index_in (map (λ p. p.0) ps) i) ≡ suc k = rw t.0 at e in
+        let g : index_in (map (λ p. p.0) ps) i ≡ k = omega arith in
         rw t.0 (number_before_from-nth p.0 ps i (rw t.0 at h) ∙ ap (nth (p.0 ∷ map (λ p. p.0) ps)) g)
   ]
 
   -- the number before the first number is the start
-  pub number_before-first : (b : Option ℕ) (ps : List (Numbered X)) (i : ℕ) → Has ps i → place_in (map (λ p. p.0) ps) i ≡ 0 → number_before_from b ps i ≡ b
+  pub number_before-first : (b : Option ℕ) (ps : List (Numbered X)) (i : ℕ) → Has ps i → index_in (map (λ p. p.0) ps) i ≡ 0 → number_before_from b ps i ≡ b
   number_before-first b [] i h e = (let f : false ≡ true = h in absurd cc)
   number_before-first b (p ∷ ps) i h e = elim (eqb_tells p.0 i) [
     | inl t ↦ rw t.0 refl
-    | inr t ↦ (let f : suc (place_in (map (λ p. p.0) ps) i) ≡ 0 = rw t.0 at e in absurd (omega arith))
+    | inr t ↦ (let f : suc (index_in (map (λ p. p.0) ps) i) ≡ 0 = rw t.0 at e in absurd (omega arith))
   ]
 
-  -- the last number is the number at the last place
+  -- the last number is the number at the last index
   pub last_number-nth : (ps : List (Numbered X)) → last_number ps ≡ nth (map (λ p. p.0) ps) (length ps - 1)
   last_number-nth [] = refl
   last_number-nth (p ∷ []) = refl
@@ -145,36 +145,36 @@ pub AreFilled-parts : (xs ys : List (Numbered (List ℕ))) → AreFilled (xs ++ 
 AreFilled-parts [] ys f = (tt, f)
 AreFilled-parts (x ∷ xs) ys f = let r = AreFilled-parts xs ys f.1 in ((f.0, r.0), r.1)
 
--- the row and the place of a number
+-- the row and the index of a number
 pub record Found (rows : List (Numbered (List ℕ))) (i : ℕ) : Type 0 where
   pub ids : List ℕ
   pub row : leaf_in rows (row_with rows i) ≡ Some ids
   pub inside : among ids i ≡ true
-  pub position : position_at rows (place_in (numbers rows) i) ≡ Some (record { row = row_with rows i; place = place_in ids i })
+  pub position : position_at rows (index_in (numbers rows) i) ≡ Some (record { row = row_with rows i; index = index_in ids i })
 
 -- a number is found if the first row has it
 found_here : (r : Numbered (List ℕ)) (rs : List (Numbered (List ℕ))) (i : ℕ) → among r.1 i ≡ true → Found (r ∷ rs) i
 found_here r rs i t =
-    let w : place_in r.1 i < length r.1 = place_in-within r.1 i t in
-    let l : ltb (place_in r.1 i) (length r.1) ≡ true = grind (arith, nat_tests) in
+    let w : index_in r.1 i < length r.1 = index_in-within r.1 i t in
+    let l : ltb (index_in r.1 i) (length r.1) ≡ true = grind (arith, nat_tests) in
     record {
       ids = r.1;
       row = rw (t, eqb_same r.0) refl;
       inside = t;
-      position = rw (t, place_in-append_in r.1 (numbers rs) i t, l) refl;
+      position = rw (t, index_in-append_in r.1 (numbers rs) i t, l) refl;
     }
 
 -- a number is found if a later row has it
 found_later : (r : Numbered (List ℕ)) (rs : List (Numbered (List ℕ))) (i : ℕ) → Lacks rs r.0 → among r.1 i ≡ false → Found rs i → Found (r ∷ rs) i
 found_later r rs i d t s =
     let n : eqb r.0 (row_with rs i) ≡ false = eqb_other r.0 (row_with rs i) (λ e. has_other rs (row_with rs i) r.0 (rw s.row refl) d (sym e)) in
-    let l : ltb (length r.1 + place_in (numbers rs) i) (length r.1) ≡ false = grind (arith, nat_tests) in
-    let m : length r.1 + place_in (numbers rs) i - length r.1 ≡ place_in (numbers rs) i = omega arith in
+    let l : ltb (length r.1 + index_in (numbers rs) i) (length r.1) ≡ false = grind (arith, nat_tests) in
+    let m : length r.1 + index_in (numbers rs) i - length r.1 ≡ index_in (numbers rs) i = omega arith in
     record {
       ids = s.ids;
       row = rw (t, n) s.row;
       inside = s.inside;
-      position = rw (t, place_in-append_out r.1 (numbers rs) i t, l, m) s.position;
+      position = rw (t, index_in-append_out r.1 (numbers rs) i t, l, m) s.position;
     }
 
 pub found : (rows : List (Numbered (List ℕ))) (i : ℕ) → AreDistinct rows → among (numbers rows) i ≡ true → Found rows i
@@ -190,18 +190,18 @@ pub record Standing (rows : List (Numbered (List ℕ))) (k : ℕ) (p : Position)
   pub ids : List ℕ
   pub after : List (Numbered (List ℕ))
   pub is : rows ≡ before ++ (p.row, ids) ∷ after
-  pub index : k ≡ length (numbers before) + p.place
-  pub within : p.place < length ids
+  pub index : k ≡ length (numbers before) + p.index
+  pub within : p.index < length ids
 
 pub standing : (rows : List (Numbered (List ℕ))) (k : ℕ) (p : Position) → position_at rows k ≡ Some p → Standing rows k p
 standing [] k p e = absurd cc
 standing (r ∷ rs) k p e = elim (cases_Bool (ltb k (length r.1))) [
   | inl t ↦
-      let q : Position = record { row = r.0; place = k } in
+      let q : Position = record { row = r.0; index = k } in
       let f : Some q ≡ Some p = rw t at e in
       let g : q ≡ p = cc in
       let a : r.0 ≡ p.row = ap (λ (x : Position). x.row) g in
-      let b : k ≡ p.place = ap (λ (x : Position). x.place) g in
+      let b : k ≡ p.index = ap (λ (x : Position). x.index) g in
       let w : k < length r.1 = grind (arith, nat_tests) in
       record { before = []; ids = r.1; after = rs; is = ap (λ n. (n, r.1) ∷ rs) a; index = omega arith; within = omega arith }
   | inr t ↦
@@ -218,7 +218,7 @@ position-split (r ∷ rs) rest j =
     let m : length (r.1 ++ numbers rs) + j - length r.1 ≡ length (numbers rs) + j = omega arith in
     rw (l, m) (position-split rs rest j)
 
-pub position-here : (r : ℕ) (ids : List ℕ) (after : List (Numbered (List ℕ))) (j : ℕ) → j < length ids → position_at ((r, ids) ∷ after) j ≡ Some (record { row = r; place = j })
+pub position-here : (r : ℕ) (ids : List ℕ) (after : List (Numbered (List ℕ))) (j : ℕ) → j < length ids → position_at ((r, ids) ∷ after) j ≡ Some (record { row = r; index = j })
 position-here r ids after j h = (let l : ltb j (length ids) ≡ true = grind (arith, nat_tests) in rw l refl)
 
 pub position-past : (r : ℕ) (ids : List ℕ) (after : List (Numbered (List ℕ))) (j : ℕ) → position_at ((r, ids) ∷ after) (length ids + j) ≡ position_at after j
@@ -235,7 +235,7 @@ position-first (r ∷ rs) f = (let w = f.0 in let l : ltb 0 (length r.1) ≡ tru
 pub position-none : (rows : List (Numbered (List ℕ))) (k : ℕ) → position_at rows k ≡ None → nth (numbers rows) k ≡ None
 position-none [] k e = refl
 position-none (r ∷ rs) k e = elim (cases_Bool (ltb k (length r.1))) [
-  | inl t ↦ (let q : Position = record { row = r.0; place = k } in let f : Some q ≡ None = rw t at e in absurd cc)
+  | inl t ↦ (let q : Position = record { row = r.0; index = k } in let f : Some q ≡ None = rw t at e in absurd cc)
   | inr t ↦
       let w : length r.1 ≤ k = grind (arith, nat_tests) in
       let m : k ≡ length r.1 + (k - length r.1) = omega arith in
@@ -244,7 +244,7 @@ position-none (r ∷ rs) k e = elim (cases_Bool (ltb k (length r.1))) [
 
 -- the last position of a row
 abbrev pub end_of : ℕ → ℕ → Position
-end_of n r = record { row = r; place = n - 1 }
+end_of n r = record { row = r; index = n - 1 }
 
 -- the last position is the end of the last row
 pub position-last : (rows : List (Numbered (List ℕ))) → AreDistinct rows → AreFilled rows → (r : ℕ) (ids : List ℕ) → last_number rows ≡ Some r → leaf_in rows r ≡ Some ids → position_at rows (length (numbers rows) - 1) ≡ Some (end_of (length ids) r)
@@ -258,7 +258,7 @@ position-last (q ∷ []) d f r ids e g =
     let l : ltb (length (q.1 ++ []) - 1) (length q.1) ≡ true = grind (arith, nat_tests) in
     let m : length (q.1 ++ []) - 1 ≡ length q.1 - 1 = omega arith in
     let z : end_of (length q.1) q.0 ≡ end_of (length ids) r = rw (h, a) refl in
-    rw l (ap Some (ap (λ x. let y : Position = record { row = q.0; place = x } in y) m ∙ z))
+    rw l (ap Some (ap (λ x. let y : Position = record { row = q.0; index = x } in y) m ∙ z))
 position-last (q ∷ t ∷ rs) d f r ids e g =
     let h : Has (t ∷ rs) r = Has-last (t ∷ rs) r e in
     let n : eqb q.0 r ≡ false = eqb_other q.0 r (λ u. has_other (t ∷ rs) r q.0 h d.0 (sym u)) in
@@ -282,18 +282,18 @@ module _ (rows : List (Numbered (List ℕ))) (k : ℕ) (p : Position) (s : Stand
   pub standing-numbers : numbers rows ≡ numbers s.before ++ (s.ids ++ numbers s.after)
   standing-numbers = ap numbers s.is ∙ numbers-append s.before ((p.row, s.ids) ∷ s.after)
 
-  -- the number at the index is the number at the place in the row
-  pub standing-number : nth (numbers rows) k ≡ nth s.ids p.place
-  standing-number = rw (standing-numbers, s.index) (nth-append_right (numbers s.before) (s.ids ++ numbers s.after) p.place ∙ nth-append_left s.ids (numbers s.after) p.place s.within)
+  -- the number at the index of a position is the number at the index in its row
+  pub standing-number : nth (numbers rows) k ≡ nth s.ids p.index
+  standing-number = rw (standing-numbers, s.index) (nth-append_right (numbers s.before) (s.ids ++ numbers s.after) p.index ∙ nth-append_left s.ids (numbers s.after) p.index s.within)
 
-  -- the next position is the next place in the row, if there is one
-  pub standing-within : p.place + 1 < length s.ids → position_at rows (k + 1) ≡ Some (record { row = p.row; place = p.place + 1 })
+  -- the next position is the next index in the row, if there is one
+  pub standing-within : p.index + 1 < length s.ids → position_at rows (k + 1) ≡ Some (record { row = p.row; index = p.index + 1 })
   standing-within w =
-      let e : k + 1 ≡ length (numbers s.before) + (p.place + 1) = let i = s.index in omega arith in
-      ap (λ rs. position_at rs (k + 1)) s.is ∙ ap (position_at (s.before ++ (p.row, s.ids) ∷ s.after)) e ∙ position-split s.before ((p.row, s.ids) ∷ s.after) (p.place + 1) ∙ position-here p.row s.ids s.after (p.place + 1) w
+      let e : k + 1 ≡ length (numbers s.before) + (p.index + 1) = let i = s.index in omega arith in
+      ap (λ rs. position_at rs (k + 1)) s.is ∙ ap (position_at (s.before ++ (p.row, s.ids) ∷ s.after)) e ∙ position-split s.before ((p.row, s.ids) ∷ s.after) (p.index + 1) ∙ position-here p.row s.ids s.after (p.index + 1) w
 
   -- the first position after the row is the start of the next row
-  pub standing-end : AreDistinct rows → AreFilled rows → (b : ℕ) → b + p.place ≡ k + length s.ids → position_at rows b ≡ option_map start_of (number_after rows p.row)
+  pub standing-end : AreDistinct rows → AreFilled rows → (b : ℕ) → b + p.index ≡ k + length s.ids → position_at rows b ≡ option_map start_of (number_after rows p.row)
   standing-end d f b w =
       let e : b ≡ length (numbers s.before) + (length s.ids + 0) = let i = s.index in omega arith in
       let a : number_after rows p.row ≡ first_number s.after = ap (λ rs. number_after rs p.row) s.is ∙ number_after-split p.row s.ids s.after s.before (standing-lacks d).0 in
@@ -301,7 +301,7 @@ module _ (rows : List (Numbered (List ℕ))) (k : ℕ) (p : Position) (s : Stand
       ap (λ rs. position_at rs b) s.is ∙ ap (position_at (s.before ++ (p.row, s.ids) ∷ s.after)) e ∙ position-split s.before ((p.row, s.ids) ∷ s.after) (length s.ids + 0) ∙ position-past p.row s.ids s.after 0 ∙ position-first s.after g.1 ∙ ap (option_map start_of) (sym a)
 
   -- if there is none, the next position is the start of the next row
-  pub standing-after : AreDistinct rows → AreFilled rows → length s.ids ≤ p.place + 1 → position_at rows (k + 1) ≡ option_map start_of (number_after rows p.row)
+  pub standing-after : AreDistinct rows → AreFilled rows → length s.ids ≤ p.index + 1 → position_at rows (k + 1) ≡ option_map start_of (number_after rows p.row)
   standing-after d f w = let i = s.within in standing-end d f (k + 1) (omega arith)
 
 -- an index among the first rows has its position in them
@@ -328,19 +328,19 @@ leaf_in-front {X = X} xs ys i x h e = go (leaf_in xs i) h (sym (leaf_in-append x
     go (Some y) h e = e
 
 module _ (rows : List (Numbered (List ℕ))) (k : ℕ) (p : Position) (s : Standing rows k p) where
-  -- the position before is the place before in the row, if there is one
-  pub standing-earlier : 0 < p.place → position_at rows (k - 1) ≡ Some (record { row = p.row; place = p.place - 1 })
+  -- the position before is the index before in the row, if there is one
+  pub standing-earlier : 0 < p.index → position_at rows (k - 1) ≡ Some (record { row = p.row; index = p.index - 1 })
   standing-earlier w =
-      let e : k - 1 ≡ length (numbers s.before) + (p.place - 1) = let i = s.index in omega arith in
-      ap (λ rs. position_at rs (k - 1)) s.is ∙ ap (position_at (s.before ++ (p.row, s.ids) ∷ s.after)) e ∙ position-split s.before ((p.row, s.ids) ∷ s.after) (p.place - 1) ∙ position-here p.row s.ids s.after (p.place - 1) (let i = s.within in omega arith)
+      let e : k - 1 ≡ length (numbers s.before) + (p.index - 1) = let i = s.index in omega arith in
+      ap (λ rs. position_at rs (k - 1)) s.is ∙ ap (position_at (s.before ++ (p.row, s.ids) ∷ s.after)) e ∙ position-split s.before ((p.row, s.ids) ∷ s.after) (p.index - 1) ∙ position-here p.row s.ids s.after (p.index - 1) (let i = s.within in omega arith)
 
   -- the row before is the last of the rows before
   pub standing-row_before : AreDistinct rows → number_before rows p.row ≡ last_number s.before
   standing-row_before d = ap (λ rs. number_before rs p.row) s.is ∙ number_before-split p.row s.ids s.after s.before (standing-lacks rows k p s d).0
 
   module _ (d : AreDistinct rows) (f : AreFilled rows) where
-    -- the first place of the first row has index 0
-    pub standing-first : p.place ≡ 0 → number_before rows p.row ≡ None → k ≡ 0
+    -- the first position of the first row has index 0
+    pub standing-first : p.index ≡ 0 → number_before rows p.row ≡ None → k ≡ 0
     standing-first z e =
         let b : s.before ≡ [] = no_last s.before (sym (standing-row_before d) ∙ e) in
         let n : length (numbers s.before) ≡ 0 = ap (λ l. length (numbers l)) b in
@@ -357,12 +357,12 @@ module _ (rows : List (Numbered (List ℕ))) (k : ℕ) (p : Position) (s : Stand
       apart : AreDistinct s.before
       apart = (AreDistinct-parts s.before ((p.row, s.ids) ∷ s.after) (subst AreDistinct s.is d)).0
 
-      -- a place with a row before its row does not have index 0
+      -- a position with a row before its row does not have index 0
       pub standing-not_first : 0 < k
       standing-not_first = (let n = filled-some s.before r fills last_is in let i = s.index in omega arith)
 
-      -- at the first place of a row, the position before is the last place of the row before
-      pub standing-row_end : p.place ≡ 0 → (ids : List ℕ) → leaf_in rows r ≡ Some ids → position_at rows (k - 1) ≡ Some (end_of (length ids) r)
+      -- at the first index of a row, the position before is the last index of the row before
+      pub standing-row_end : p.index ≡ 0 → (ids : List ℕ) → leaf_in rows r ≡ Some ids → position_at rows (k - 1) ≡ Some (end_of (length ids) r)
       standing-row_end z ids g =
           let n = filled-some s.before r fills last_is in
           let i = s.index in

@@ -3,7 +3,7 @@ use Rattle.std.specs.Prelude.{◌≡◌, ◌+◌, ◌*◌, ℕ, List, [], ◌∷
 use Rattle.std.specs.Coded.{Coded, code_by, coded×, coded_ℕ, coded_list}
 use Rattle.std.specs.List.{AllZip}
 use Rattle.art_rows.specs.Numbers.{Numbered}
-use Rattle.art_rows.specs.Rows.{place_in, lengths}
+use Rattle.art_rows.specs.Rows.{index_in, lengths}
 use Rattle.art_rows.specs.RowRoom.{row_room, row_end_room}
 use Rattle.art_rows.specs.declared.row.TheConstants.{ROW}
 
@@ -33,9 +33,9 @@ module _ {K V : Type 0} where
 
   -- how many pairs come before the pair of a number
   abbrev pub index_of : List (Numbered (K × V)) → ℕ → ℕ
-  index_of ps i = place_in (map (λ p. p.0) ps) i
+  index_of ps i = index_in (map (λ p. p.0) ps) i
 
-  -- how many pairs come before a place, which is after a number or before all pairs
+  -- how many pairs come before a gap, which is after a number or before all pairs
   abbrev pub spot_index : Option ℕ → List (Numbered (K × V)) → ℕ
   spot_index None ps = 0
   spot_index (Some i) ps = index_of ps i + 1
@@ -62,6 +62,6 @@ module _ {K V : Type 0} (is_key : K → K → Type 0) (is_value : V → V → Ty
     pub key : is_key old.1.0 new.1.0
     pub value : is_value old.1.1 new.1.1
 
-  -- each pair is a copy of the pair at the same place
+  -- each pair is a copy of the pair at the same index
   abbrev pub AreCopies : List (Numbered (K × V)) → List (Numbered (K × V)) → Type 0
   AreCopies ps qs = AllZip IsCopy ps qs

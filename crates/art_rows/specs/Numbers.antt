@@ -6,7 +6,7 @@ use Rattle.std.specs.Coded.{Coded, code_by, coded×, coded_ℕ, coded_list}
 abbrev pub Numbered : Type 0 → Type 0
 Numbered X = ℕ × X
 
--- the items in order, the spare places, the room for more, a number above all, and the next number
+-- the items in order, the spare slots, the room for more, a number above all, and the next number
 pub record Numbers (X : Type 0) : Type 0 where
   pub pairs : List (Numbered X)
   pub spare : ℕ

@@ -41,8 +41,8 @@ impl Clone for Link<usize> {
 }
 
 /// Items in order, each under a number. A contract sees the items in order, the number of spare
-/// places, the number of places that can be added without an allocation, a number greater than that
-/// of each place, and the number of the next new place.
+/// slots, the number of slots that can be added without an allocation, a number greater than that
+/// of each slot, and the number of the next new slot.
 #[derive(Drop)]
 pub(crate) struct Chain<T> {
     pub(crate) records: Slots<Link<T>>,
@@ -125,7 +125,7 @@ impl Chain<usize> {
 }
 
 impl<T> Chain<T> {
-    /// Returns a chain with no items and no places. Does not allocate.
+    /// Returns a chain with no items and no slots. Does not allocate.
     pub(crate) fn new(alloc: Global) -> Self
         ensures pairs { result.pairs ≡ [] }
         ensures spare { result.spare ≡ 0 }
@@ -146,15 +146,15 @@ impl<T> Chain<T> {
         self.records.used()
     }
 
-    /// Returns the number of spare places. An item that goes into one needs no allocation.
+    /// Returns the number of spare slots. An item that goes into one needs no allocation.
     pub(crate) fn spare(&self) -> usize
         ensures { result ≡ self.now.spare }
     {
         self.records.spare()
     }
 
-    /// Returns the number of the next new place.
-    pub(crate) fn next_place(&self) -> usize
+    /// Returns the number of the next new slot.
+    pub(crate) fn next_slot(&self) -> usize
         ensures { result ≡ self.now.next }
     {
         self.records.next()
@@ -272,8 +272,8 @@ impl<T: Drop> Chain<T> {
         link.item
     }
 
-    /// Makes room for one more place. Returns an error if it fails to allocate. The items and the
-    /// spare places are unchanged in both cases.
+    /// Makes room for one more slot. Returns an error if it fails to allocate. The items and the
+    /// spare slots are unchanged in both cases.
     pub(crate) fn grow(&mut self) -> Result<(), AllocError>
         ensures pairs { self.new.pairs ≡ self.old.pairs }
         ensures spare { self.new.spare ≡ self.old.spare }
@@ -285,8 +285,8 @@ impl<T: Drop> Chain<T> {
         self.records.grow(1)
     }
 
-    /// Adds a spare place. Does not allocate.
-    pub(crate) fn add_place(&mut self)
+    /// Adds a spare slot. Does not allocate.
+    pub(crate) fn add_slot(&mut self)
         requires { 0 < self.old.room }
         ensures pairs { self.new.pairs ≡ self.old.pairs }
         ensures spare { self.new.spare ≡ self.old.spare + 1 }
@@ -296,7 +296,7 @@ impl<T: Drop> Chain<T> {
         self.records.add_spare();
     }
 
-    /// Drops all items, and removes all places.
+    /// Drops all items, and removes all slots.
     pub(crate) fn clear(&mut self)
         ensures pairs { self.new.pairs ≡ [] }
         ensures spare { self.new.spare ≡ 0 }

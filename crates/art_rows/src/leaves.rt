@@ -115,10 +115,10 @@ impl<K, V> Leaves<K, V> {
         let ids = self.rows.read(row);
         let last = ids.len() - 1;
         if ids.has_at(last, id) {
-            return Position { row, place: last };
+            return Position { row, index: last };
         }
-        let place = ids.place_of(id);
-        Position { row, place }
+        let index = ids.index_of(id);
+        Position { row, index }
     }
 
     /// Returns the position of a leaf. `seen` is a guess of it. This is a function of its own, so
@@ -130,7 +130,7 @@ impl<K, V> Leaves<K, V> {
         ensures { position_at self.now.rows (index_of self.now.pairs id) ≡ Some result }
     {
         match self.rows.get(seen.row) {
-            Some(row) if row.has_at(seen.place, id) => seen,
+            Some(row) if row.has_at(seen.index, id) => seen,
             _ => self.position_of(id),
         }
     }
@@ -140,14 +140,14 @@ impl<K, V> Leaves<K, V> {
     fn after_in_row(&self, id: LeafId, seen: Position) -> Option<LeafId>
         requires { Has self.now.pairs id }
         ensures after { IfSome result (λ n. number_after self.now.pairs id ≡ Some n) }
-        ensures within { IfSome result (λ _. seen.place < ROW) }
-        ensures there { IfSome (leaf_in self.now.rows seen.row) (λ ids. nth ids seen.place ≡ Some id
-            → seen.place + 1 < length ids → IsSome result) }
+        ensures within { IfSome result (λ _. seen.index < ROW) }
+        ensures there { IfSome (leaf_in self.now.rows seen.row) (λ ids. nth ids seen.index ≡ Some id
+            → seen.index + 1 < length ids → IsSome result) }
     {
         let row = self.rows.get(seen.row)?;
-        // A row has at most 64 numbers, so the place after this one is small.
+        // A row has at most 64 numbers, so the index after this one is small.
         let _len = row.len();
-        row.after(seen.place, id)
+        row.after(seen.index, id)
     }
 
     /// Returns the leaf before this one, if `seen` is the position of this one, and it is not the
@@ -155,12 +155,12 @@ impl<K, V> Leaves<K, V> {
     fn before_in_row(&self, id: LeafId, seen: Position) -> Option<LeafId>
         requires { Has self.now.pairs id }
         ensures before { IfSome result (λ n. number_before self.now.pairs id ≡ Some n) }
-        ensures within { IfSome result (λ _. 0 < seen.place) }
-        ensures there { IfSome (leaf_in self.now.rows seen.row) (λ ids. nth ids seen.place ≡ Some id
-            → 0 < seen.place → IsSome result) }
+        ensures within { IfSome result (λ _. 0 < seen.index) }
+        ensures there { IfSome (leaf_in self.now.rows seen.row) (λ ids. nth ids seen.index ≡ Some id
+            → 0 < seen.index → IsSome result) }
     {
         let row = self.rows.get(seen.row)?;
-        row.before(seen.place, id)
+        row.before(seen.index, id)
     }
 
     /// Returns the number at a position.
@@ -169,7 +169,7 @@ impl<K, V> Leaves<K, V> {
         ensures { (k : ℕ) → position_at self.now.rows k ≡ Some position
             → nth (map (λ p. p.0) self.now.pairs) k ≡ Some result }
     {
-        self.rows.read(position.row).at(position.place)
+        self.rows.read(position.row).at(position.index)
     }
 
     /// Returns the position of the first leaf.
@@ -178,7 +178,7 @@ impl<K, V> Leaves<K, V> {
     {
         match self.rows.first() {
             None => None,
-            Some(row) => Some(Position { row, place: 0 }),
+            Some(row) => Some(Position { row, index: 0 }),
         }
     }
 
@@ -189,8 +189,8 @@ impl<K, V> Leaves<K, V> {
         match self.rows.last() {
             None => None,
             Some(row) => {
-                let place = self.rows.read(row).len() - 1;
-                Some(Position { row, place })
+                let index = self.rows.read(row).len() - 1;
+                Some(Position { row, index })
             }
         }
     }
@@ -203,16 +203,16 @@ impl<K, V> Leaves<K, V> {
             → result ≡ position_at self.now.rows (k + 1) }
     {
         let len = self.rows.read(position.row).len();
-        let place = position.place + 1;
-        if place < len {
+        let index = position.index + 1;
+        if index < len {
             return Some(Position {
                 row: position.row,
-                place,
+                index,
             });
         }
         match self.rows.next_of(position.row) {
             None => None,
-            Some(row) => Some(Position { row, place: 0 }),
+            Some(row) => Some(Position { row, index: 0 }),
         }
     }
 
@@ -225,17 +225,17 @@ impl<K, V> Leaves<K, V> {
         ensures first { position_at self.now.rows 0 ≡ Some position → result ≡ None }
     {
         let rows = &self.rows;
-        if 0 < position.place {
+        if 0 < position.index {
             return Some(Position {
                 row: position.row,
-                place: position.place - 1,
+                index: position.index - 1,
             });
         }
         match rows.prev_of(position.row) {
             None => None,
             Some(row) => {
-                let place = rows.read(row).len() - 1;
-                Some(Position { row, place })
+                let index = rows.read(row).len() - 1;
+                Some(Position { row, index })
             }
         }
     }
@@ -294,7 +294,7 @@ impl<K, V> Leaves<K, V> {
         ensures { result ≡ number_after self.now.pairs id }
     {
         if let Some(near) = self.after_in_row(id, *seen) {
-            seen.place += 1;
+            seen.index += 1;
             return Some(near);
         }
         let (next, at) = self.next_by_rows(id, *seen);
@@ -325,7 +325,7 @@ impl<K, V> Leaves<K, V> {
         ensures { result ≡ number_before self.now.pairs id }
     {
         if let Some(near) = self.before_in_row(id, *seen) {
-            seen.place -= 1;
+            seen.index -= 1;
             return Some(near);
         }
         let (prev, at) = self.prev_by_rows(id, *seen);
@@ -354,7 +354,7 @@ impl<K, V> Leaves<K, V> {
         ensures { StandsAfter self.now.pairs self.now.rows id result }
     {
         let position = self.position_of(id);
-        match self.rows.read(position.row).run_after(position.place) {
+        match self.rows.read(position.row).run_after(position.index) {
             None => Following::unknown(),
             Some(run) => Following {
                 run,
@@ -470,8 +470,8 @@ impl<K, V> Leaves<K, V> {
             return (None, Run::empty());
         };
         let ids = rows.read(position.row);
-        let prev = ids.at(position.place);
-        match ids.run_before(position.place) {
+        let prev = ids.at(position.index);
+        match ids.run_before(position.index) {
             None => (Some(prev), Run::empty()),
             Some(run) => (Some(prev), run),
         }
@@ -548,7 +548,7 @@ impl<K: Drop, V: Drop> Leaves<K, V> {
         ensures room { room self.old ≤ room self.new }
     {
         let leaf = self.records.take(id.number());
-        self.rows.remove(position.row, position.place);
+        self.rows.remove(position.row, position.index);
         (leaf.key, leaf.value)
     }
 
@@ -663,13 +663,13 @@ impl<K: Drop, V: Drop> Leaves<K, V> {
         ensures ok { OnOk result (self.new.spare_rows ≡ self.old.spare_rows + 1) }
     {
         self.rows.grow()?;
-        let row = self.rows.next_place();
+        let row = self.rows.next_slot();
         if row >= MOST_ROWS {
             return Err(AllocError);
         }
         self.records.grow(ROW * (row + 1))?;
         self.rows.add_cells(row + 1)?;
-        self.rows.add_place();
+        self.rows.add_slot();
         Ok(())
     }
 

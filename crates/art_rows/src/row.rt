@@ -1,7 +1,7 @@
 //! A row of the numbers of cells.
 ghost use Rattle.std.specs.Prelude.{◌≡◌, ◌⊎◌, ℕ, ◌+◌, ◌-◌, ◌*◌, ◌<◌, ◌≤◌, [], length, take, drop, Some, true, IfSome, IsSome, slice_index_or};
 ghost use Rattle.art_slots.specs.Words.{numbers as words, times};
-ghost use Rattle.art_rows.specs.Rows.{among, place_in, nth, nowhere};
+ghost use Rattle.art_rows.specs.Rows.{among, index_in, nth, nowhere};
 ghost use Rattle.art_rows.specs.Cells.{IsRow};
 
 use crate::run::Run;
@@ -17,11 +17,11 @@ pub(crate) const HALF: usize = 32;
 /// The low half of a number is less than this.
 const RADIX: usize = 1 << 32;
 
-/// A row, and a place in it.
+/// A row, and an index in it.
 #[derive(Clone, Copy)]
 pub struct Position {
     pub(crate) row: usize,
-    pub(crate) place: usize,
+    pub(crate) index: usize,
 }
 
 impl Position {
@@ -31,7 +31,7 @@ impl Position {
     pub fn unknown() -> Self
         ensures { result ≡ nowhere }
     {
-        Position { row: 0, place: 0 }
+        Position { row: 0, index: 0 }
     }
 }
 
@@ -79,64 +79,64 @@ impl<'a> Row<'a> {
         self.count
     }
 
-    /// Returns the number at a place.
+    /// Returns the number at an index.
     #[inline(always)]
-    pub(crate) fn at(&self, place: usize) -> LeafId
-        requires { place < length self.now }
-        ensures { nth self.now place ≡ Some result }
+    pub(crate) fn at(&self, index: usize) -> LeafId
+        requires { index < length self.now }
+        ensures { nth self.now index ≡ Some result }
     {
-        LeafId::new(number_at(self.low, self.high, place))
+        LeafId::new(number_at(self.low, self.high, index))
     }
 
-    /// Returns `true` if this number is at this place.
+    /// Returns `true` if this number is at this index.
     #[inline(always)]
-    pub(crate) fn has_at(&self, place: usize, number: LeafId) -> bool
-        ensures here { result ≡ true → nth self.now place ≡ Some number }
-        ensures there { nth self.now place ≡ Some number → result ≡ true }
+    pub(crate) fn has_at(&self, index: usize, number: LeafId) -> bool
+        ensures here { result ≡ true → nth self.now index ≡ Some number }
+        ensures there { nth self.now index ≡ Some number → result ≡ true }
     {
-        place < self.count && self.at(place) == number
+        index < self.count && self.at(index) == number
     }
 
-    /// Returns the number after `number`, if `number` is at this place and is not the last.
+    /// Returns the number after `number`, if `number` is at this index and is not the last.
     #[inline(always)]
-    pub(crate) fn after(&self, place: usize, number: LeafId) -> Option<LeafId>
-        ensures some { IfSome result (λ n. (nth self.now place ≡ Some number)
-            × (nth self.now (place + 1) ≡ Some n)) }
-        ensures there { nth self.now place ≡ Some number → place + 1 < length self.now
+    pub(crate) fn after(&self, index: usize, number: LeafId) -> Option<LeafId>
+        ensures some { IfSome result (λ n. (nth self.now index ≡ Some number)
+            × (nth self.now (index + 1) ≡ Some n)) }
+        ensures there { nth self.now index ≡ Some number → index + 1 < length self.now
             → IsSome result }
     {
-        if place < self.count && place + 1 < self.count && self.at(place) == number {
-            Some(self.at(place + 1))
+        if index < self.count && index + 1 < self.count && self.at(index) == number {
+            Some(self.at(index + 1))
         } else {
             None
         }
     }
 
-    /// Returns the number before `number`, if `number` is at this place and is not the first.
+    /// Returns the number before `number`, if `number` is at this index and is not the first.
     #[inline(always)]
-    pub(crate) fn before(&self, place: usize, number: LeafId) -> Option<LeafId>
-        ensures some { IfSome result (λ n. (0 < place) × (nth self.now place ≡ Some number)
-            × (nth self.now (place - 1) ≡ Some n)) }
-        ensures there { nth self.now place ≡ Some number → 0 < place → IsSome result }
+    pub(crate) fn before(&self, index: usize, number: LeafId) -> Option<LeafId>
+        ensures some { IfSome result (λ n. (0 < index) × (nth self.now index ≡ Some number)
+            × (nth self.now (index - 1) ≡ Some n)) }
+        ensures there { nth self.now index ≡ Some number → 0 < index → IsSome result }
     {
-        if 0 < place && place < self.count && self.at(place) == number {
-            Some(self.at(place - 1))
+        if 0 < index && index < self.count && self.at(index) == number {
+            Some(self.at(index - 1))
         } else {
             None
         }
     }
 
-    /// Returns the place of a number of the row.
+    /// Returns the index of a number of the row.
     #[inline(always)]
-    pub(crate) fn place_of(&self, number: LeafId) -> usize
+    pub(crate) fn index_of(&self, number: LeafId) -> usize
         requires { among self.now number ≡ true }
-        ensures { result ≡ place_in self.now number }
+        ensures { result ≡ index_in self.now number }
     {
         let number = number.number();
         if self.high.len() == 0 {
-            place_of_half(self.low, number)
+            index_of_half(self.low, number)
         } else {
-            place_of_both(self.low, self.high, number)
+            index_of_both(self.low, self.high, number)
         }
     }
 
@@ -150,43 +150,43 @@ impl<'a> Row<'a> {
         Run::new(&self.low[..self.count])
     }
 
-    /// Returns the numbers after a place, or `None` if the numbers have high halves.
+    /// Returns the numbers after an index, or `None` if the numbers have high halves.
     #[inline(always)]
-    pub(crate) fn run_after(&self, place: usize) -> Option<Run<'a>>
-        requires { place < length self.now }
-        ensures { IfSome result (λ run. run ≡ drop (place + 1) self.now) }
+    pub(crate) fn run_after(&self, index: usize) -> Option<Run<'a>>
+        requires { index < length self.now }
+        ensures { IfSome result (λ run. run ≡ drop (index + 1) self.now) }
     {
         if self.high.len() != 0 {
             return None;
         }
-        Some(Run::new(&self.low[place + 1..self.count]))
+        Some(Run::new(&self.low[index + 1..self.count]))
     }
 
-    /// Returns the numbers before a place, or `None` if the numbers have high halves.
+    /// Returns the numbers before an index, or `None` if the numbers have high halves.
     #[inline(always)]
-    pub(crate) fn run_before(&self, place: usize) -> Option<Run<'a>>
-        requires { place < length self.now }
-        ensures { IfSome result (λ run. run ≡ take place self.now) }
+    pub(crate) fn run_before(&self, index: usize) -> Option<Run<'a>>
+        requires { index < length self.now }
+        ensures { IfSome result (λ run. run ≡ take index self.now) }
     {
         if self.high.len() != 0 {
             return None;
         }
-        Some(Run::new(&self.low[..place]))
+        Some(Run::new(&self.low[..index]))
     }
 }
 
-/// Returns the place of a number that is at one place of 64. It looks at each place, and adds up
-/// the places of the number: a loop that ends early takes longer.
-fn place_of_half(low: &[u32], number: usize) -> usize
+/// Returns the index of a number that is at one of 64 indices. It looks at each, and adds up
+/// the indices of the number: a loop that ends early takes longer.
+fn index_of_half(low: &[u32], number: usize) -> usize
     requires long { length low.now ≡ ROW }
     requires once { times low.now number ≡ 1 }
-    ensures { result ≡ place_in low.now number }
+    ensures { result ≡ index_in low.now number }
 {
     let half = number as u32;
     let mut at: u32 = 0;
-    for place in 0u32..64 {
-        at += if low[place as usize] == half {
-            place
+    for index in 0u32..64 {
+        at += if low[index as usize] == half {
+            index
         } else {
             0
         };
@@ -194,30 +194,30 @@ fn place_of_half(low: &[u32], number: usize) -> usize
     at as usize
 }
 
-/// Returns the number at a place. A number with no high half is its low half.
+/// Returns the number at an index. A number with no high half is its low half.
 #[inline(always)]
-fn number_at(low: &[u32], high: &[u32], place: usize) -> usize
-    requires { place < length low.now }
-    ensures { result ≡ slice_index_or (words low.now high.now) place 0 }
+fn number_at(low: &[u32], high: &[u32], index: usize) -> usize
+    requires { index < length low.now }
+    ensures { result ≡ slice_index_or (words low.now high.now) index 0 }
 {
-    let half = low[place] as usize;
-    if place < high.len() {
-        half + high[place] as usize * RADIX
+    let half = low[index] as usize;
+    if index < high.len() {
+        half + high[index] as usize * RADIX
     } else {
         half
     }
 }
 
-/// Returns the place of a number in a list with high halves, or the length of the list if the
+/// Returns the index of a number in a list with high halves, or the length of the list if the
 /// number is not in it.
 #[cold]
 #[inline(never)]
-fn place_of_both(low: &[u32], high: &[u32], number: usize) -> usize
-    ensures { result ≡ place_in (words low.now high.now) number }
+fn index_of_both(low: &[u32], high: &[u32], number: usize) -> usize
+    ensures { result ≡ index_in (words low.now high.now) number }
 {
-    for place in 0..low.len() {
-        if number_at(low, high, place) == number {
-            return place;
+    for index in 0..low.len() {
+        if number_at(low, high, index) == number {
+            return index;
         }
     }
     low.len()

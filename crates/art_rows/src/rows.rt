@@ -75,10 +75,10 @@ impl Rows {
     }
 
     /// Returns the number of the next new row.
-    pub(crate) fn next_place(&self) -> usize
+    pub(crate) fn next_slot(&self) -> usize
         ensures { result ≡ self.now.next }
     {
-        self.counts.next_place()
+        self.counts.next_slot()
     }
 
     /// Returns the first row, if there is one.
@@ -142,15 +142,15 @@ impl Rows {
         self.owners.read(cell.number())
     }
 
-    /// Takes an unused cell of a row that is not full into use, at this place among those in use,
+    /// Takes an unused cell of a row that is not full into use, at this index among those in use,
     /// and returns its number.
     #[inline(always)]
-    pub(crate) fn insert(&mut self, row: usize, place: usize) -> LeafId
+    pub(crate) fn insert(&mut self, row: usize, index: usize) -> LeafId
         requires has { Has self.old.pairs row }
         requires room { IfSome (leaf_in self.old.pairs row) (λ ids. length ids < ROW) }
-        requires place { IfSome (leaf_in self.old.pairs row) (λ ids. place ≤ length ids) }
+        requires index { IfSome (leaf_in self.old.pairs row) (λ ids. index ≤ length ids) }
         ensures rows { IfSome (leaf_in self.old.pairs row) (λ ids. self.new.pairs
-            ≡ with_pair self.old.pairs row (take place ids ++ result ∷ drop place ids)) }
+            ≡ with_pair self.old.pairs row (take index ids ++ result ∷ drop index ids)) }
         ensures fresh { among (numbers self.old.pairs) result ≡ false }
         ensures lies { result < ROW * self.old.top }
         ensures spare { self.new.spare ≡ self.old.spare }
@@ -161,21 +161,21 @@ impl Rows {
         let _len = self.cells.len();
         let count = *self.counts.read(row);
         let cell = LeafId::new(self.cells.read(ROW * row + count));
-        self.cells.move_down(row, count, place);
+        self.cells.move_down(row, count, index);
         *self.counts.get_mut(row) = count + 1;
         cell
     }
 
-    /// Removes the cell at a place from its row, and the row if it has no other cell in use.
+    /// Removes the cell at an index from its row, and the row if it has no other cell in use.
     #[inline(always)]
-    pub(crate) fn remove(&mut self, row: usize, place: usize)
+    pub(crate) fn remove(&mut self, row: usize, index: usize)
         requires has { Has self.old.pairs row }
-        requires within { IfSome (leaf_in self.old.pairs row) (λ ids. place < length ids) }
+        requires within { IfSome (leaf_in self.old.pairs row) (λ ids. index < length ids) }
         ensures one { IfSome (leaf_in self.old.pairs row) (λ ids. length ids ≡ 1
             → self.new.pairs ≡ without_number self.old.pairs row) }
         ensures more { IfSome (leaf_in self.old.pairs row) (λ ids. length ids ≢ 1
             → self.new.pairs ≡ with_pair self.old.pairs row
-            (take place ids ++ drop (place + 1) ids)) }
+            (take index ids ++ drop (index + 1) ids)) }
         ensures gains { IfSome (leaf_in self.old.pairs row) (λ ids. length ids ≡ 1
             → self.new.spare ≡ self.old.spare + 1) }
         ensures keeps { IfSome (leaf_in self.old.pairs row) (λ ids. length ids ≢ 1
@@ -187,7 +187,7 @@ impl Rows {
         if count == 1 {
             let _ = self.counts.remove(row);
         } else {
-            self.cells.move_up(row, place, count - 1);
+            self.cells.move_up(row, index, count - 1);
             *self.counts.get_mut(row) = count - 1;
         }
     }
@@ -271,7 +271,7 @@ impl Rows {
     }
 
     /// Adds a spare row, which has cells. Does not allocate.
-    pub(crate) fn add_place(&mut self)
+    pub(crate) fn add_slot(&mut self)
         requires room { 0 < self.old.room }
         requires cells { self.old.next < self.old.top }
         ensures pairs { self.new.pairs ≡ self.old.pairs }
@@ -279,7 +279,7 @@ impl Rows {
         ensures room { self.new.room + 1 ≡ self.old.room }
         ensures top { self.new.top ≡ self.old.top }
     {
-        self.counts.add_place();
+        self.counts.add_slot();
     }
 
     /// Returns a copy with the same rows under the same numbers, or an error if it fails to
@@ -338,9 +338,9 @@ fn number_cells(cells: &mut Words, owners: &mut Words, row: usize)
 {
     // The list has fewer than 2^61 numbers, so no index overflows.
     let _len = cells.len();
-    for place in 0..ROW {
-        cells.write(ROW * row + place, ROW * row + place);
-        owners.write(ROW * row + place, row);
+    for index in 0..ROW {
+        cells.write(ROW * row + index, ROW * row + index);
+        owners.write(ROW * row + index, row);
     }
 }
 
@@ -363,8 +363,8 @@ fn exchange_halves(cells: &mut Words, owners: &mut Words, row: usize, new: usize
 {
     // The list has fewer than 2^61 numbers, so no index overflows.
     let _len = cells.len();
-    for place in 0..HALF {
-        let (from, to) = (ROW * row + HALF + place, ROW * new + place);
+    for index in 0..HALF {
+        let (from, to) = (ROW * row + HALF + index, ROW * new + index);
         let moves = cells.read(from);
         let other = cells.read(to);
         cells.write(from, other);

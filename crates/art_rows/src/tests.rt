@@ -13,16 +13,16 @@ use std::process::Abort;
 
 type Key = [u8; 3];
 
-/// Returns the key of a place less than 1,000, with a byte for each of its digits.
-fn key_of(place: usize) -> Key {
+/// Returns the key of an index less than 1,000, with a byte for each of its digits.
+fn key_of(index: usize) -> Key {
     let byte_of = |digit: usize| ((digit % 10) as u8).wrapping_mul(37).wrapping_add(100);
-    [byte_of(place / 100), byte_of(place / 10), byte_of(place)]
+    [byte_of(index / 100), byte_of(index / 10), byte_of(index)]
 }
 
-/// Adds the pair of a place at the end.
-fn push(rt: &impl Abort, leaves: &mut Leaves<Key, usize>, place: usize) {
+/// Adds the pair of an index at the end.
+fn push(rt: &impl Abort, leaves: &mut Leaves<Key, usize>, index: usize) {
     leaves.reserve_end(1).expect(rt, "memory");
-    leaves.push(key_of(place), place);
+    leaves.push(key_of(index), index);
 }
 
 /// Returns the number at an index.
@@ -31,9 +31,9 @@ fn number_at(rt: &impl Abort, words: &Words, i: usize) -> usize {
     words.read(i)
 }
 
-/// Asserts that a row has this number at a place, with no high half, and that the number's cell
+/// Asserts that a row has this number at an index, with no high half, and that the number's cell
 /// tells the row.
-fn assert_cell(rt: &impl Abort, rows: &Rows, row: usize, place: usize, number: usize) {
+fn assert_cell(rt: &impl Abort, rows: &Rows, row: usize, index: usize, number: usize) {
     let Some(
         Row {
             low,
@@ -44,8 +44,8 @@ fn assert_cell(rt: &impl Abort, rows: &Rows, row: usize, place: usize, number: u
     else {
         panic!(rt; "a row");
     };
-    assert!(rt; high.is_empty() && place < low.len());
-    assert!(rt; low[place] as usize == number);
+    assert!(rt; high.is_empty() && index < low.len());
+    assert!(rt; low[index] as usize == number);
     assert!(rt; number_at(rt, &rows.owners, number) == row);
 }
 
@@ -60,9 +60,9 @@ fn assert_row(rt: &impl Abort, rows: &Rows, number: usize) {
         Some(next) => assert!(rt; *next == number.wrapping_add(1) && *item == 64),
         None => assert!(rt; number == 15 && *item == 40),
     }
-    for place in 0..64usize {
-        let cell = number.wrapping_mul(64).wrapping_add(place);
-        assert_cell(rt, rows, number, place, cell);
+    for index in 0..64usize {
+        let cell = number.wrapping_mul(64).wrapping_add(index);
+        assert_cell(rt, rows, number, index, cell);
         assert!(rt; number_at(rt, &rows.cells, cell) == cell);
     }
 }
@@ -70,8 +70,8 @@ fn assert_row(rt: &impl Abort, rows: &Rows, number: usize) {
 #[test]
 fn leaves_taken_apart(rt: HostRuntime) {
     let mut leaves = Leaves::new(rt.alloc());
-    for place in 0..1000 {
-        push(&rt, &mut leaves, place);
+    for index in 0..1000 {
+        push(&rt, &mut leaves, index);
     }
     let Leaf { key, value } = Leaf { key: 1, value: 2 };
     assert!(rt; key < value);
@@ -103,8 +103,8 @@ fn leaves_taken_apart(rt: HostRuntime) {
 #[test]
 fn a_row_cut_in_half(rt: HostRuntime) {
     let mut leaves = Leaves::new(rt.alloc());
-    for place in 0..64 {
-        push(&rt, &mut leaves, place);
+    for index in 0..64 {
+        push(&rt, &mut leaves, index);
     }
     leaves.reserve(1).expect(&rt, "memory");
     let first = leaves.first();
@@ -113,20 +113,20 @@ fn a_row_cut_in_half(rt: HostRuntime) {
     // The upper half of row 0 is in row 1, and half of the cells of row 1 are in row 0.
     assert_cell(&rt, &leaves.rows, 0, 0, 0);
     assert_cell(&rt, &leaves.rows, 0, 1, 64);
-    for place in 2..33usize {
-        assert_cell(&rt, &leaves.rows, 0, place, place.wrapping_sub(1));
+    for index in 2..33usize {
+        assert_cell(&rt, &leaves.rows, 0, index, index.wrapping_sub(1));
     }
-    for place in 33..64usize {
-        assert_cell(&rt, &leaves.rows, 0, place, place.wrapping_add(32));
+    for index in 33..64usize {
+        assert_cell(&rt, &leaves.rows, 0, index, index.wrapping_add(32));
     }
-    for place in 0..32usize {
-        assert_cell(&rt, &leaves.rows, 1, place, place.wrapping_add(32));
+    for index in 0..32usize {
+        assert_cell(&rt, &leaves.rows, 1, index, index.wrapping_add(32));
         assert_cell(
             &rt,
             &leaves.rows,
             1,
-            place.wrapping_add(32),
-            place.wrapping_add(96),
+            index.wrapping_add(32),
+            index.wrapping_add(96),
         );
     }
     let mut following = leaves.following(id);

@@ -1,4 +1,4 @@
--- Lemmas for callers: the pairs under ids, their ends and bounds, and places that are free.
+-- Lemmas for callers: the pairs under ids, their ends and bounds, and gaps.
 use Rattle.std.proofs.Common.{◌≡◌, ℕ, List, false, sym, ◌∙◌, None}
 use Rattle.std.proofs.lemmas.Bool.{false≢true, false_from_ne_true}
 use Rattle.blart_keys.specs.Bytes.{related, conflicts}
@@ -11,7 +11,7 @@ use Rattle.art_tree.specs.Begins.{Bytes}
 use Rattle.art_tree.specs.Leaves.{Numbered, AreDistinct, bytes, keys_in}
 use Rattle.art_tree.specs.Pairs.{pairs_of}
 use Rattle.art_tree.specs.Points.{IsFree}
-use Rattle.art_tree.specs.declared.tree.point.Place.{Place}
+use Rattle.art_tree.specs.declared.tree.point.Gap.{Gap}
 use Rattle.art_tree.proofs.NumberedPairs.KeyChanges.{leaving_unrelated}
 use Rattle.art_tree.proofs.NumberedPairs.Keys.{key_of_member}
 use Rattle.art_tree.proofs.NumberedPairs.Turns.{none_begins}
@@ -47,6 +47,6 @@ pub conflict_pairs : {K V : Type 0} (kb : K → Bytes) (ps : List (Numbered K V)
 conflict_pairs kb ps q = list_any-map (λ p. p.1) (λ x. conflicts (kb x.0) q) ps
 
 module _ {K V : Type 0} (kb : K → Bytes) (ps : List (Numbered K V)) (content : IsContent (bytes kb) ps) (distinct : AreDistinct ps) (q : Bytes) where
-  -- no key is related to a key with a free place
-  pub free_alone : (place : Place) → IsFree kb ps place q → (y : Numbered K V) → Member y ps → related (bytes kb y) q ≡ false
-  free_alone place free y m = leaving_unrelated (keys_in kb ps) place.nearest place.depth q free.leaves (none_begins kb ps content distinct) y.0 (bytes kb y) (key_of_member kb ps y distinct m)
+  -- no key is related to the key of a gap
+  pub free_alone : (gap : Gap) → IsFree kb ps gap q → (y : Numbered K V) → Member y ps → related (bytes kb y) q ≡ false
+  free_alone gap free y m = leaving_unrelated (keys_in kb ps) gap.nearest gap.depth q free.leaves (none_begins kb ps content distinct) y.0 (bytes kb y) (key_of_member kb ps y distinct m)

@@ -1,7 +1,7 @@
 pub mod Added
 pub mod Answers
 pub mod Bounds
-pub mod Branches
+pub mod Subtrees
 pub mod Changes
 pub mod Copies
 pub mod Filtering

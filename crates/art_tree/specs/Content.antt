@@ -34,11 +34,11 @@ module _ {K V : Type 0} where
   Fits t Empty = 0 < t.spares.leaves
   Fits t (Exact id) = Unit {0}
   Fits t (Related first last) = Unit {0}
-  Fits t (Free place) = 0 < room t
+  Fits t (Free gap) = 0 < room t
 
 -- a pair may be placed at this point
 abbrev pub IsOpen : Point → Type 0
 IsOpen Empty = Unit {0}
 IsOpen (Exact id) = ⊥
 IsOpen (Related first last) = ⊥
-IsOpen (Free place) = Unit {0}
+IsOpen (Free gap) = Unit {0}

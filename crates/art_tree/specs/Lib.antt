@@ -6,7 +6,7 @@ pub mod Leaves
 pub mod Longest
 pub mod PairList
 pub mod Pairs
-pub mod Places
+pub mod Gaps
 pub mod Points
 pub mod Seeks
 pub mod Spans

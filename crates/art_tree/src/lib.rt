@@ -18,6 +18,6 @@ pub use art_slots::{LeafId, Visits};
 pub use pair_list::Pairs;
 pub use tree::add::Added;
 pub use tree::build::Frame;
-pub use tree::point::{Place, Point};
+pub use tree::point::{Gap, Point};
 pub use tree::{DEFAULT_PREFIX_LEN, Tree};
 pub use walk::Walk;

@@ -1,11 +1,11 @@
-//! Takes a tree apart. It has a thousand keys, each with its place as value. The tests assert what
+//! Takes a tree apart. It has a thousand keys, each with its number as value. The tests assert what
 //! the tree is made of, and that nothing else is there. Each pattern names every field of its type,
 //! so a new field does not compile until a test looks at it.
 use crate::pair_list::Pairs;
 use crate::tree::Tree;
 use crate::tree::build::Frame;
 use crate::tree::descent::Fork;
-use crate::tree::point::{Beside, Place, Point};
+use crate::tree::point::{Gap, Neighbour, Point};
 use crate::tree::skeleton::Skeleton;
 use crate::walk::Walk;
 use art_kinds::{Child, NodeRef, Nodes};
@@ -20,20 +20,20 @@ fn byte_of(digit: usize) -> u8 {
     ((digit % 10) as u8).wrapping_mul(37).wrapping_add(100)
 }
 
-/// Returns the key of a place less than 1,000, with a byte for each of its digits.
-fn key_of(place: usize) -> [u8; 3] {
-    [byte_of(place / 100), byte_of(place / 10), byte_of(place)]
+/// Returns the key of a number less than 1,000, with a byte for each of its digits.
+fn key_of(number: usize) -> [u8; 3] {
+    [byte_of(number / 100), byte_of(number / 10), byte_of(number)]
 }
 
-/// Adds the pair of a place. Its key is related to no other.
-fn add(rt: &impl Abort, tree: &mut Bare, place: usize) {
-    let key = key_of(place);
+/// Adds the pair of a number. Its key is related to no other.
+fn add(rt: &impl Abort, tree: &mut Bare, number: usize) {
+    let key = key_of(number);
     let point = tree.point(&key);
     tree.make_room(&point).expect(rt, "memory");
     match point {
         Point::Exact(_) | Point::Related { .. } => panic!(rt; "the key conflicts"),
         Point::Empty | Point::Free(_) => {
-            tree.place(point, key, place);
+            tree.place(point, key, number);
         }
     }
 }
@@ -44,13 +44,13 @@ type Numbers = [usize; 1000];
 /// Returns the numbers of the leaves' ids, in the order in which the pairs came.
 fn numbers_of(rt: &impl Abort, tree: &Bare) -> Numbers {
     let mut numbers: Numbers = [0; 1000];
-    for place in 0..1000 {
-        let key = key_of(place);
+    for number in 0..1000 {
+        let key = key_of(number);
         let Some((id, stored, held)) = tree.get(&key, &mut Visits::new()) else {
             panic!(rt; "a pair");
         };
-        assert!(rt; *stored == key && *held == place);
-        numbers[place] = id.number();
+        assert!(rt; *stored == key && *held == number);
+        numbers[number] = id.number();
     }
     numbers
 }
@@ -99,29 +99,29 @@ fn assert_all(rt: &impl Abort, nodes: &Nodes<0>, root: Option<Child>, numbers: &
     }
 }
 
-/// Returns the place of a free point.
-fn place_of(rt: &impl Abort, tree: &Bare, query: &[u8]) -> Place {
+/// Returns the gap of a free point.
+fn gap_of(rt: &impl Abort, tree: &Bare, query: &[u8]) -> Gap {
     match tree.point(query) {
-        Point::Free(place) => place,
-        Point::Empty | Point::Exact(_) => panic!(rt; "a place"),
-        Point::Related { first: _, last: _ } => panic!(rt; "a place"),
+        Point::Free(gap) => gap,
+        Point::Empty | Point::Exact(_) => panic!(rt; "a gap"),
+        Point::Related { first: _, last: _ } => panic!(rt; "a gap"),
     }
 }
 
-/// Asserts that the place of some bytes, which part from the keys at a node, names a leaf, the
+/// Asserts that the gap of some bytes, which part from the keys at a node, names a leaf, the
 /// node, and one byte of a key.
-fn assert_places(rt: &impl Abort, tree: &Bare, numbers: &Numbers) {
-    let Place {
+fn assert_gap(rt: &impl Abort, tree: &Bare, numbers: &Numbers) {
+    let Gap {
         nearest,
         depth,
         beside,
         fork,
         byte,
-    } = place_of(rt, tree, &[100, 100, 101]);
+    } = gap_of(rt, tree, &[100, 100, 101]);
     assert!(rt; depth == 2 && nearest.number() == numbers[0] && byte == byte_of(0));
     match beside {
-        Beside::AfterLeaf(id) => assert!(rt; id.number() == numbers[0]),
-        Beside::BeforeLeaf(_) => panic!(rt; "the place is after the leaf"),
+        Neighbour::AfterLeaf(id) => assert!(rt; id.number() == numbers[0]),
+        Neighbour::BeforeLeaf(_) => panic!(rt; "the gap is after the leaf"),
     }
     match fork {
         Fork::Node(above, _) => assert!(rt; above.is_some()),
@@ -144,11 +144,11 @@ fn assert_walk(rt: &impl Abort, tree: &Bare) {
 #[test]
 fn a_tree_taken_apart(rt: HostRuntime) {
     let mut tree = Bare::new(rt.alloc());
-    for place in 0..1000 {
-        add(&rt, &mut tree, place);
+    for number in 0..1000 {
+        add(&rt, &mut tree, number);
     }
     let numbers = numbers_of(&rt, &tree);
-    assert_places(&rt, &tree, &numbers);
+    assert_gap(&rt, &tree, &numbers);
     assert_walk(&rt, &tree);
     let Tree {
         leaves,

@@ -199,7 +199,7 @@ impl<K: AsBytes, V, const PREFIX_LEN: usize> Tree<K, V, PREFIX_LEN> {
     }
 
     /// Returns the point of these bytes: the leaf that has them, the leaves that they conflict
-    /// with, or a free place. The point is good for these bytes while the pairs are unchanged.
+    /// with, or the gap where they go. The point is good for these bytes while the pairs are unchanged.
     ///
     /// Cost: one descent.
     pub fn point(&self, query: &[u8]) -> Point

@@ -13,7 +13,7 @@ use Rattle.art_tree.specs.Content.{IsOpen}
 use Rattle.art_tree.specs.Leaves.{Numbered, leaf_in, Has, AreDistinct, with_pair, bytes}
 use Rattle.art_tree.specs.Points.{IsGood}
 use Rattle.art_tree.specs.Takes.{MayTake}
-use Rattle.art_tree.specs.declared.tree.point.Place.{Place}
+use Rattle.art_tree.specs.declared.tree.point.Gap.{Gap}
 use Rattle.art_tree.specs.declared.tree.point.Point.{Point}
 use Rattle.art_tree.specs.declared.tree.point.Point.TheVariants.{Empty, Exact, Related, Free}
 use Rattle.art_tree.proofs.CallerLemmas.{leaf_in-member, Member-from_leaf_in, free_alone}
@@ -25,7 +25,7 @@ use Rattle.art_edits.proofs.Numbers.{cut_at, cut_pairs, exchanged_pairs}
 use Rattle.art_edits.proofs.Related.Thinning.{first_there}
 
 -- a pair may be placed at these points
-pub opens : (point : Point) → (point ≡ Empty) ⊎ ((place : Place) × (point ≡ Free place)) → IsOpen point
+pub opens : (point : Point) → (point ≡ Empty) ⊎ ((place : Gap) × (point ≡ Free place)) → IsOpen point
 opens point (inl e) = subst IsOpen (sym e) tt
 opens point (inr e) = subst IsOpen (sym e.1) tt
 

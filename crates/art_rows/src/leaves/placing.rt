@@ -38,10 +38,10 @@ impl<K: Drop, V: Drop> Leaves<K, V> {
         if self.row_len(position.row) < ROW {
             return self.put(prev, position, key, value);
         }
-        if position.place == 0 {
+        if position.index == 0 {
             return self.begin(prev, None, key, value);
         }
-        if position.place < ROW {
+        if position.index < ROW {
             return self.put_apart(prev, position, key, value);
         }
         match self.row_after(position.row) {
@@ -49,7 +49,7 @@ impl<K: Drop, V: Drop> Leaves<K, V> {
             Some(next) if self.row_len(next) < ROW => {
                 let start = Position {
                     row: next,
-                    place: 0,
+                    index: 0,
                 };
                 self.put(prev, start, key, value)
             }
@@ -70,10 +70,10 @@ impl<K: Drop, V: Drop> Leaves<K, V> {
             return self.begin(None, None, key, value);
         };
         let last = self.number(position);
-        if position.place < ROW - 1 {
+        if position.index < ROW - 1 {
             let end = Position {
                 row: position.row,
-                place: position.place + 1,
+                index: position.index + 1,
             };
             return self.put(Some(last), end, key, value);
         }
@@ -95,12 +95,12 @@ impl<K: Drop, V: Drop> Leaves<K, V> {
     {
         let _ = &self.rows;
         let new = self.cut(position.row);
-        if position.place <= HALF {
+        if position.index <= HALF {
             return self.put(prev, position, key, value);
         }
         let upper = Position {
             row: new,
-            place: position.place - HALF,
+            index: position.index - HALF,
         };
         self.put(prev, upper, key, value)
     }
@@ -130,18 +130,18 @@ impl<K: Drop, V: Drop> Leaves<K, V> {
         ensures none { IfNone result (self.now.rows ≡ []) }
         ensures first { IfNone prev (result ≡ position_at self.now.rows 0) }
         ensures found { IfSome prev (λ _. IsSome result) }
-        ensures later { IfSome result (λ p. IfSome prev (λ _. 0 < p.place)) }
+        ensures later { IfSome result (λ p. IfSome prev (λ _. 0 < p.index)) }
     {
         let _ = &self.rows;
         match prev {
             None => self.first_position(),
             Some(id) => {
                 let position = self.position_near(id, seen);
-                // A place is less than the number of leaves, so there is a number after it.
+                // An index is less than the number of leaves, so there is a number after it.
                 let _used = self.records.used();
                 Some(Position {
                     row: position.row,
-                    place: position.place + 1,
+                    index: position.index + 1,
                 })
             }
         }
@@ -159,9 +159,9 @@ impl<K: Drop, V: Drop> Leaves<K, V> {
         ensures spare_rows { self.new.spare_rows ≡ self.old.spare_rows }
         ensures rows { IfSome (leaf_in self.old.rows position.row)
             (λ ids. self.new.rows ≡ with_pair self.old.rows position.row
-            (take position.place ids ++ result ∷ drop position.place ids)) }
+            (take position.index ids ++ result ∷ drop position.index ids)) }
     {
-        let id = self.rows.insert(position.row, position.place);
+        let id = self.rows.insert(position.row, position.index);
         self.records.put(id.number(), Leaf { key, value });
         id
     }

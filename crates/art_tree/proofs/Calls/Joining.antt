@@ -5,7 +5,7 @@ use Rattle.std.proofs.lemmas.Bool.{cases_eq}
 use Rattle.std.proofs.lemmas.List.{length-take-le}
 use Rattle.art_tree.specs.Invariant.EdgesAbove.{LeadsTo, TurnsTo, edge_front}
 use Rattle.art_tree.specs.Begins.{Bytes, Begins, next_byte}
-use Rattle.art_tree.specs.Places.{LeavesNearest}
+use Rattle.art_tree.specs.Gaps.{LeavesNearest}
 use Rattle.art_tree.specs.Calls.Placing.{MakesNodeOfTwo, DepthWithin, KeepsFrom}
 use Rattle.art_tree.specs.Calls.Removing.{StartsBelow, EndsBelow, Cuts, CutsAfter}
 use Rattle.art_kinds.specs.Edges.{child_at}

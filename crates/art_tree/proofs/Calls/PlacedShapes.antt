@@ -3,7 +3,7 @@ use Rattle.std.proofs.Common.{◌≡◌, ◌≢◌, ℕ, ◌<◌, List, [], ◌�
 use Rattle.std.proofs.lemmas.List.{length-take-le}
 use Rattle.art_tree.specs.Invariant.EdgesAbove.{LeadsTo, TurnsTo, edge_front}
 use Rattle.art_tree.specs.Begins.{Bytes, Begins, next_byte}
-use Rattle.art_tree.specs.Places.{LeavesNearest}
+use Rattle.art_tree.specs.Gaps.{LeavesNearest}
 use Rattle.art_kinds.specs.Nodes.{Node, Makes, Renames, AddsEdgeTo}
 use Rattle.art_tree.specs.Calls.Removing.{CutsAfter}
 use Rattle.art_tree.specs.Invariant.Shape.{Shape}

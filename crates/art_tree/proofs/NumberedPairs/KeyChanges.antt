@@ -5,7 +5,7 @@ use Rattle.std.proofs.lemmas.Bool.Decides.{eqb_tells}
 use Rattle.std.proofs.lemmas.List.{length-take-le}
 use Rattle.blart_keys.specs.Bytes.{related}
 use Rattle.art_tree.specs.Begins.{Bytes, Begins, next_byte}
-use Rattle.art_tree.specs.Places.{LeavesNearest}
+use Rattle.art_tree.specs.Gaps.{LeavesNearest}
 use Rattle.art_tree.specs.Leaves.{Numbered, leaf_in, keys_in, OthersStand}
 use Rattle.art_tree.proofs.BeginsLemmas.{Begins-take, Begins-linear, Begins-more, Begins-past, Begins-trans, related_cases}
 use Rattle.art_tree.proofs.Invariant.Growing.{Departs, Gains}

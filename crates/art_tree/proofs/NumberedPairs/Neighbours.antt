@@ -8,9 +8,9 @@ use Rattle.blart_keys.proofs.PartLemmas.{PartsBelow-from, less-from_PartsBelow, 
 use Rattle.blart_keys.proofs.RankLemmas.{Member, Ranked, each_member, Member-append_left, Member-append_right, Member-append_cases, Ranked-across, Ranked-left, Ranked-right}
 use Rattle.blart_keys.proofs.ContentLemmas.{Before, Ranked-from_content, put_between, related-same, unrelated_back}
 use Rattle.art_tree.specs.Begins.{Bytes, Begins, next_byte}
-use Rattle.art_tree.specs.Places.{LastBefore, FirstAfter, IsLeafBefore, IsBeside, number_before_place}
-use Rattle.art_tree.specs.declared.tree.point.Beside.{Beside}
-use Rattle.art_tree.specs.declared.tree.point.Beside.TheVariants.{AfterLeaf, BeforeLeaf}
+use Rattle.art_tree.specs.Gaps.{LastBefore, FirstAfter, IsLeafBefore, IsBeside, number_before_gap}
+use Rattle.art_tree.specs.declared.tree.point.Neighbour.{Neighbour}
+use Rattle.art_tree.specs.declared.tree.point.Neighbour.TheVariants.{AfterLeaf, BeforeLeaf}
 use Rattle.art_kinds.specs.Edges.{child_at, IsPrevious, IsNext}
 use Rattle.art_tree.specs.Leaves.{Numbered, bytes, keys_in, leaf_in, AreDistinct, with_pair_after, first_number, number_after, number_before, number_before_from}
 use Rattle.art_kinds.specs.Nodes.{Node}
@@ -162,7 +162,7 @@ last_or back [] = back
 last_or back (p ∷ ps) = last_or (Some p.0) ps
 
 module _ {K V : Type 0} where
-  -- the place of a pair in the list
+  -- the list, cut at a pair
   pub record IsSplit (ps : List (Numbered K V)) (i : ℕ) : Type 0 where
     pub before : List (Numbered K V)
     pub pair : K × V
@@ -202,32 +202,32 @@ module _ {K V : Type 0} (key_bytes : K → Bytes) (pairs : List (Numbered K V)) 
   ranked : Ranked (Before (bytes key_bytes)) pairs
   ranked = Ranked-from_content (bytes key_bytes) pairs content
 
-  -- the pair of a number, and its place
+  -- the pair of a number, and the list cut at it
   module _ (i : ℕ) (k : Bytes) (k_is : keys_in key_bytes pairs i ≡ Some k) where
-    place : IsSplit pairs i
-    place = let p = pair_of_key key_bytes pairs i k k_is in split pairs i p.0 p.1
+    cut : IsSplit pairs i
+    cut = let p = pair_of_key key_bytes pairs i k k_is in split pairs i p.0 p.1
 
-    here : Member (i, place.pair) pairs
-    here = subst (λ (l : List (Numbered K V)). Member (i, place.pair) l) (sym place.is) (Member-append_right (i, place.pair) place.before ((i, place.pair) ∷ place.after) (inl refl))
+    here : Member (i, cut.pair) pairs
+    here = subst (λ (l : List (Numbered K V)). Member (i, cut.pair) l) (sym cut.is) (Member-append_right (i, cut.pair) cut.before ((i, cut.pair) ∷ cut.after) (inl refl))
 
-    key_here : key_bytes place.pair.0 ≡ k
+    key_here : key_bytes cut.pair.0 ≡ k
     key_here =
-        let e : keys_in key_bytes pairs i ≡ Some (key_bytes place.pair.0) = key_of_member key_bytes pairs (i, place.pair) distinct here in
+        let e : keys_in key_bytes pairs i ≡ Some (key_bytes cut.pair.0) = key_of_member key_bytes pairs (i, cut.pair) distinct here in
         cc
 
-    ranked_here : Ranked (Before (bytes key_bytes)) (place.before ++ (i, place.pair) ∷ place.after)
-    ranked_here = subst (λ (l : List (Numbered K V)). Ranked (Before (bytes key_bytes)) l) place.is ranked
+    ranked_here : Ranked (Before (bytes key_bytes)) (cut.before ++ (i, cut.pair) ∷ cut.after)
+    ranked_here = subst (λ (l : List (Numbered K V)). Ranked (Before (bytes key_bytes)) l) cut.is ranked
 
-    before_here : (y : Numbered K V) → Member y place.before → (less (bytes key_bytes y) k ≡ true) × Member y pairs
+    before_here : (y : Numbered K V) → Member y cut.before → (less (bytes key_bytes y) k ≡ true) × Member y pairs
     before_here y m = (
-      subst (λ (k : Bytes). less (bytes key_bytes y) k ≡ true) key_here (less-from_PartsBelow _ _ (Ranked-across (Before (bytes key_bytes)) place.before ((i, place.pair) ∷ place.after) ranked_here y (i, place.pair) m (inl refl))),
-      subst (λ (l : List (Numbered K V)). Member y l) (sym place.is) (Member-append_left y place.before ((i, place.pair) ∷ place.after) m),
+      subst (λ (k : Bytes). less (bytes key_bytes y) k ≡ true) key_here (less-from_PartsBelow _ _ (Ranked-across (Before (bytes key_bytes)) cut.before ((i, cut.pair) ∷ cut.after) ranked_here y (i, cut.pair) m (inl refl))),
+      subst (λ (l : List (Numbered K V)). Member y l) (sym cut.is) (Member-append_left y cut.before ((i, cut.pair) ∷ cut.after) m),
     )
 
-    after_here : (y : Numbered K V) → Member y place.after → (less k (bytes key_bytes y) ≡ true) × Member y pairs
+    after_here : (y : Numbered K V) → Member y cut.after → (less k (bytes key_bytes y) ≡ true) × Member y pairs
     after_here y m = (
-      subst (λ (k : Bytes). less k (bytes key_bytes y) ≡ true) key_here (less-from_PartsBelow _ _ (each_member (Before (bytes key_bytes) (i, place.pair)) place.after y (Ranked-right (Before (bytes key_bytes)) place.before ((i, place.pair) ∷ place.after) ranked_here).0 m)),
-      subst (λ (l : List (Numbered K V)). Member y l) (sym place.is) (Member-append_right y place.before ((i, place.pair) ∷ place.after) (inr m)),
+      subst (λ (k : Bytes). less k (bytes key_bytes y) ≡ true) key_here (less-from_PartsBelow _ _ (each_member (Before (bytes key_bytes) (i, cut.pair)) cut.after y (Ranked-right (Before (bytes key_bytes)) cut.before ((i, cut.pair) ∷ cut.after) ranked_here).0 m)),
+      subst (λ (l : List (Numbered K V)). Member y l) (sym cut.is) (Member-append_right y cut.before ((i, cut.pair) ∷ cut.after) (inr m)),
     )
 
     -- a pair with this number has its key
@@ -256,7 +256,7 @@ module _ {K V : Type 0} (key_bytes : K → Bytes) (pairs : List (Numbered K V)) 
   leaf_before_first_from q i st = subst (λ (o : Option ℕ). IsLeafBefore (keys_in key_bytes pairs) q o) (sym (p.previous None)) (go p.before refl)
     where
       p : IsSplit pairs i
-      p = place i st.key st.is
+      p = cut i st.key st.is
 
       -- neither this pair nor a later one is less than q
       not_late : (y : Numbered K V) → Member y ((i, p.pair) ∷ p.after) → less (bytes key_bytes y) q ≡ true → ⊥
@@ -306,7 +306,7 @@ module _ {K V : Type 0} (key_bytes : K → Bytes) (pairs : List (Numbered K V)) 
   leaf_after_key i q is = subst (λ (o : Option ℕ). IsLeafAfter (keys_in key_bytes pairs) q o) (sym p.next) (go p.after refl)
     where
       p : IsSplit pairs i
-      p = place i q is
+      p = cut i q is
 
       -- a greater key is the key of a later pair
       is_late : (j : ℕ) (k : Bytes) → keys_in key_bytes pairs j ≡ Some k → less q k ≡ true → (y : Numbered K V) × Member y p.after × (y.0 ≡ j) × (bytes key_bytes y ≡ k)
@@ -354,7 +354,7 @@ module _ {K V : Type 0} (key_bytes : K → Bytes) (pairs : List (Numbered K V)) 
         put_between (bytes key_bytes) [] pairs x content (λ y m. absurd m)
         (λ y m. subst (λ (k : Bytes). PartsBelow k (bytes key_bytes y)) (sym e) (after_q y m (st y.0 (bytes key_bytes y) (key_of_member key_bytes pairs y distinct m))))
     placed_put (Some i) x e st =
-        let p = place i st.key st.is in
+        let p = cut i st.key st.is in
         let A : List (Numbered K V) = p.before ++ (i, p.pair) ∷ [] in
         let whole : pairs ≡ A ++ p.after = p.is ∙ sym (append_assoc p.before ((i, p.pair) ∷ []) p.after) in
         let made : with_pair_after (Some i) x pairs ≡ A ++ x ∷ p.after = p.placed x ∙ sym (append_assoc p.before ((i, p.pair) ∷ []) (x ∷ p.after)) in
@@ -366,10 +366,10 @@ module _ {K V : Type 0} (key_bytes : K → Bytes) (pairs : List (Numbered K V)) 
         (λ y m. subst (λ (k : Bytes). PartsBelow k (bytes key_bytes y)) (sym e) (let h = after_here i st.key st.is y m in after_q y h.1 (not_before i st y h.1 h.0))) in
         subst (λ (l : List (Numbered K V)). IsPut (bytes key_bytes) pairs x l) (sym made) (subst (λ (l : List (Numbered K V)). IsPut (bytes key_bytes) l x (A ++ x ∷ p.after)) (sym whole) put)
       where
-        last_one : (i : ℕ) (st : LastBefore (keys_in key_bytes pairs) q i) (y : Numbered K V) → Member y ((i, (place i st.key st.is).pair) ∷ []) → PartsBelow (bytes key_bytes y) q
+        last_one : (i : ℕ) (st : LastBefore (keys_in key_bytes pairs) q i) (y : Numbered K V) → Member y ((i, (cut i st.key st.is).pair) ∷ []) → PartsBelow (bytes key_bytes y) q
         last_one i st y (inl s) =
             subst (λ (y : Numbered K V). PartsBelow (bytes key_bytes y) q) s
-            (before_q (i, (place i st.key st.is).pair) (here i st.key st.is) (subst (λ (k : Bytes). less k q ≡ true) (sym (key_here i st.key st.is)) st.before))
+            (before_q (i, (cut i st.key st.is).pair) (here i st.key st.is) (subst (λ (k : Bytes). less k q ≡ true) (sym (key_here i st.key st.is)) st.before))
         last_one i st y (inr n) = absurd n
 
         not_before : (i : ℕ) (st : LastBefore (keys_in key_bytes pairs) q i) (y : Numbered K V) → Member y pairs → less st.key (bytes key_bytes y) ≡ true → less (bytes key_bytes y) q ≡ false
@@ -390,6 +390,6 @@ module _ {K V : Type 0} (key_bytes : K → Bytes) (pairs : List (Numbered K V)) 
         })
 
     -- the leaf before q, from a leaf beside q
-    pub before_beside : (beside : Beside) → IsBeside (keys_in key_bytes pairs) q beside → IsLeafBefore (keys_in key_bytes pairs) q (number_before_place pairs beside)
+    pub before_beside : (beside : Neighbour) → IsBeside (keys_in key_bytes pairs) q beside → IsLeafBefore (keys_in key_bytes pairs) q (number_before_gap pairs beside)
     before_beside (AfterLeaf i) st = st
     before_beside (BeforeLeaf i) st = leaf_before_first_after i st

@@ -4,7 +4,7 @@ use Rattle.std.specs.Prelude.{IfSome}
 use Rattle.blart_keys.specs.Bytes.{related}
 use Rattle.blart_keys.specs.Content.{IsContent}
 use Rattle.art_tree.specs.Begins.{Bytes}
-use Rattle.art_tree.specs.Places.{LeavesNearest, IsLeafBefore, IsBeside, neighbour, number_before_place}
+use Rattle.art_tree.specs.Gaps.{LeavesNearest, IsLeafBefore, IsBeside, neighbour, number_before_gap}
 use Rattle.art_tree.specs.Calls.Placing.{IsForkFor, HasNearest, IsShown, IsShownIn, IsToJoin, TreeGains, PutsPair}
 use Rattle.art_tree.specs.Leaves.{Leaves, Numbered, leaf_in, Has, AreDistinct, with_pair_after, bytes, keys_in}
 use Rattle.art_kinds.specs.Nodes.{Nodes, Node, at}
@@ -13,9 +13,9 @@ use Rattle.art_tree.specs.Invariant.Shape.{Shape}
 use Rattle.art_tree.specs.Calls.Forks.{ForkFits}
 use Rattle.art_tree.specs.Invariant.Sound.{IsSound}
 use Rattle.art_tree.specs.declared.tree.descent.Fork.{Fork}
-use Rattle.art_tree.specs.declared.tree.point.Beside.{Beside}
-use Rattle.art_tree.specs.declared.tree.point.Beside.TheVariants.{AfterLeaf, BeforeLeaf}
-use Rattle.art_tree.specs.declared.tree.point.Place.{Place}
+use Rattle.art_tree.specs.declared.tree.point.Neighbour.{Neighbour}
+use Rattle.art_tree.specs.declared.tree.point.Neighbour.TheVariants.{AfterLeaf, BeforeLeaf}
+use Rattle.art_tree.specs.declared.tree.point.Gap.{Gap}
 use Rattle.art_kinds.specs.declared.records.ids.Child.{Child}
 use Rattle.art_kinds.specs.declared.records.ids.Child.TheVariants.{Leaf}
 use Rattle.art_tree.proofs.Invariant.Growing.{Gains, some_key}
@@ -38,9 +38,9 @@ no_root keys nodes (Some c) s none =
     absurd cc
 
 -- a fork that is right for all keys is right for these
-pub shown_rest : (P : ℕ) (nodes : ℕ → Option Node) (root : Option Child) (place : Place) (keys : ℕ → Option Bytes) (shown : Option Fork) → IfSome shown (IsShown P nodes root place) → IfSome shown (IsShownIn P keys nodes root place.nearest place.depth)
-shown_rest P nodes root place keys None h = tt
-shown_rest P nodes root place keys (Some fork) h = h keys
+pub shown_rest : (P : ℕ) (nodes : ℕ → Option Node) (root : Option Child) (gap : Gap) (keys : ℕ → Option Bytes) (shown : Option Fork) → IfSome shown (IsShown P nodes root gap) → IfSome shown (IsShownIn P keys nodes root gap.nearest gap.depth)
+shown_rest P nodes root gap keys None h = tt
+shown_rest P nodes root gap keys (Some fork) h = h keys
 
 module _ {K V : Type 0} (key_bytes : K → Bytes) where
   -- the leaf before a place is a leaf of the pairs
@@ -69,8 +69,8 @@ module _ {K V : Type 0} (key_bytes : K → Bytes) where
       placed_pairs old new (key_bytes x.0) None i x content distinct (λ j k e. absurd (none j k e)) (λ j k e. absurd (none j k e)) fresh refl is
 
   -- the keys gain that pair's key
-  pub places_gain : (old new : List (Numbered K V)) (i : ℕ) (x : K × V) → PutsPair key_bytes old new i x → Gains (keys_in key_bytes old) (keys_in key_bytes new) i (key_bytes x.0)
-  places_gain old new i x p = gains_from key_bytes old new i p.others x p.fresh p.now
+  pub placed_gains : (old new : List (Numbered K V)) (i : ℕ) (x : K × V) → PutsPair key_bytes old new i x → Gains (keys_in key_bytes old) (keys_in key_bytes new) i (key_bytes x.0)
+  placed_gains old new i x p = gains_from key_bytes old new i p.others x p.fresh p.now
 
   -- with the first pair, the tree is one leaf
   pub first_sound : {P : ℕ} → (leaves leaves' : Leaves K V) (nodes : Nodes) (root : Option Child) (i : ℕ) (x : K × V) → IsSound key_bytes P leaves nodes root → leaves.pairs ≡ [] → PutsPair key_bytes leaves.pairs leaves'.pairs i x → IsSound key_bytes P leaves' nodes (Some (Leaf i))
@@ -79,23 +79,23 @@ module _ {K V : Type 0} (key_bytes : K → Bytes) where
       let s : Shape _ (keys_in key_bytes leaves.pairs) (at nodes) None = rooted sound.shape (no_root (keys_in key_bytes leaves.pairs) (at nodes) root sound.shape none) in
       record {
         content = p.put.content;
-        shape = first_key (keys_in key_bytes leaves.pairs) (keys_in key_bytes leaves'.pairs) (at nodes) i (key_bytes x.0) s (places_gain leaves.pairs leaves'.pairs i x p);
+        shape = first_key (keys_in key_bytes leaves.pairs) (keys_in key_bytes leaves'.pairs) (at nodes) i (key_bytes x.0) s (placed_gains leaves.pairs leaves'.pairs i x p);
       }
 
-  module _ (old : List (Numbered K V)) (place : Place) (q : Bytes) (content : IsContent (bytes key_bytes) old) (distinct : AreDistinct old) (free : IsFree key_bytes old place q) (prev : Option ℕ) (prev_is : prev ≡ number_before_place old place.beside) where
+  module _ (old : List (Numbered K V)) (gap : Gap) (q : Bytes) (content : IsContent (bytes key_bytes) old) (distinct : AreDistinct old) (free : IsFree key_bytes old gap q) (prev : Option ℕ) (prev_is : prev ≡ number_before_gap old gap.beside) where
     alone : (j : ℕ) (k : Bytes) → keys_in key_bytes old j ≡ Some k → related k q ≡ false
-    alone = leaving_unrelated (keys_in key_bytes old) place.nearest place.depth q free.leaves (none_begins key_bytes old content distinct)
+    alone = leaving_unrelated (keys_in key_bytes old) gap.nearest gap.depth q free.leaves (none_begins key_bytes old content distinct)
 
     -- the leaf before a free place
     pub free_before : IsLeafBefore (keys_in key_bytes old) q prev
-    free_before = subst (IsLeafBefore (keys_in key_bytes old) q) (sym prev_is) (before_beside key_bytes old content distinct q alone place.beside free.beside)
+    free_before = subst (IsLeafBefore (keys_in key_bytes old) q) (sym prev_is) (before_beside key_bytes old content distinct q alone gap.beside free.beside)
 
     -- a pair is placed at a free place
     pub placed_free : (new : List (Numbered K V)) (i : ℕ) (x : K × V) → key_bytes x.0 ≡ q → leaf_in old i ≡ None → new ≡ with_pair_after prev (i, x) old → PutsPair key_bytes old new i x
     placed_free new i x own fresh is = placed_pairs old new q prev i x content distinct alone free_before fresh own is
 
   -- the leaf beside a place is a leaf of the pairs
-  pub has_beside : (pairs : List (Numbered K V)) (q : Bytes) (beside : Beside) → IsBeside (keys_in key_bytes pairs) q beside → Has pairs (neighbour beside)
+  pub has_beside : (pairs : List (Numbered K V)) (q : Bytes) (beside : Neighbour) → IsBeside (keys_in key_bytes pairs) q beside → Has pairs (neighbour beside)
   has_beside pairs q (AfterLeaf i) st = has_key key_bytes pairs i st.key st.is
   has_beside pairs q (BeforeLeaf i) st = has_key key_bytes pairs i st.key st.is
 
@@ -107,7 +107,7 @@ module _ {K V : Type 0} (key_bytes : K → Bytes) where
     shape = sound.shape;
     key = key_bytes x.0;
     leaves = good;
-    gains = places_gain leaves.pairs new i x p;
+    gains = placed_gains leaves.pairs new i x p;
     known = known;
   }
 
@@ -148,8 +148,8 @@ module _ {P : ℕ} {keys : ℕ → Option Bytes} {nodes : ℕ → Option Node} {
       new_shape nodes' root' joined = joined new.rest keys new.shape nearest near_rest leaves_near fits (subst (λ (k : Bytes). Gains new.rest keys i k) own_key new.gains)
 
 -- the fork can be found by the nearest key
-abbrev pub to_nearest : {P : ℕ} {keys : ℕ → Option Bytes} {nodes : ℕ → Option Node} {root : Option Child} (place : Place) {shown : Option Fork} {i : ℕ} (new : IsToJoin P keys nodes root place.nearest place.depth shown i) {k m : Bytes} → keys i ≡ Some k → keys place.nearest ≡ Some m → HasNearest P nodes root place shown m
-to_nearest place new {k} {m} own near =
+abbrev pub to_nearest : {P : ℕ} {keys : ℕ → Option Bytes} {nodes : ℕ → Option Node} {root : Option Child} (gap : Gap) {shown : Option Fork} {i : ℕ} (new : IsToJoin P keys nodes root gap.nearest gap.depth shown i) {k m : Bytes} → keys i ≡ Some k → keys gap.nearest ≡ Some m → HasNearest P nodes root gap shown m
+to_nearest gap new {k} {m} own near =
     let is = near_rest new own near in
-    let long : place.depth < length m = nearest_long new.rest place.nearest place.depth k (leaves_near new own near) m is in
+    let long : gap.depth < length m = nearest_long new.rest gap.nearest gap.depth k (leaves_near new own near) m is in
     record { keys = new.rest; shape = new.shape; is = is; within = omega arith; known = new.known }

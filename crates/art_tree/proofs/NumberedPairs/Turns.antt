@@ -10,7 +10,7 @@ use Rattle.blart_keys.proofs.ContentLemmas.{Before, Ranked-from_content, unrelat
 use Rattle.blart_keys.proofs.RankLemmas.{Ranked-cases, each_member}
 use Rattle.art_tree.specs.Begins.{Bytes, Begins, next_byte}
 use Rattle.art_tree.specs.Leaves.{Numbered, AreDistinct, Has, Lacks, bytes, keys_in, number_after, first_number}
-use Rattle.art_tree.specs.Places.{FirstAfter}
+use Rattle.art_tree.specs.Gaps.{FirstAfter}
 use Rattle.art_tree.specs.Calls.Building.{IsTurn, count_after}
 use Rattle.art_tree.proofs.BeginsLemmas.{Begins-take, Begins-length, Begins-next, Begins-from_begins, begins-from_Begins, common-greatest, related-from_front}
 use Rattle.art_tree.proofs.NumberedPairs.Keys.{key_of_member, member_of_key, has_key}

@@ -1,11 +1,11 @@
--- The child beside the place at which a query parts from the stored keys.
+-- The child beside the gap at which a query parts from the stored keys.
 use Rattle.std.proofs.Common.{Bool, not, false, ◌≡◌, ◌≢◌, ℕ, ◌≤◌, true, [], ◌∷◌, ◌++◌, sym, Option, Some, None, arith}
 use Rattle.std.specs.Prelude.{ltb}
 use Rattle.std.proofs.lemmas.Bool.{ltb-true, ltb-false}
 use Rattle.art_tree.specs.Begins.{Bytes}
 use Rattle.art_tree.specs.Calls.Stops.{LeavesAtNode, LeavesAtEdge, IsChildBeside, IsNextTo, beside_leaf}
 use Rattle.art_tree.specs.Calls.Descents.{IsEndUnder}
-use Rattle.art_tree.specs.Places.{IsBeside}
+use Rattle.art_tree.specs.Gaps.{IsBeside}
 use Rattle.art_kinds.specs.Edges.{child_at, IsPrevious, IsNext}
 use Rattle.art_kinds.specs.Nodes.{Node}
 use Rattle.art_kinds.specs.declared.records.ids.Child.{Child}
@@ -33,7 +33,7 @@ module _ {P : ℕ} (keys : ℕ → Option Bytes) (nodes : ℕ → Option Node) w
     end_beside true e next i u = last_at_node keys nodes l.apart.root l.apart.shape q l.apart.alone n x is b l.goes_on e next no_edge_there i u.key u.is u.front (last_greater u)
     end_beside false e next i u = first_at_node keys nodes l.apart.root l.apart.shape q l.apart.alone n x is b l.goes_on e next no_edge_there i u.key u.is u.front (first_less u)
 
-    -- the child of the edge next to q's byte is beside q's place
+    -- the child of the edge next to q's byte is beside q's gap
     abbrev pub beside_at_node : (is_after : Bool) (e : Edge) → IsNextTo is_after x.edges b e → IsChildBeside P keys nodes q e.to is_after
     beside_at_node is_after e next = record {
       root = l.apart.root;
@@ -56,6 +56,6 @@ module _ {P : ℕ} (keys : ℕ → Option Bytes) (nodes : ℕ → Option Node) w
         let le : b ≤ a = ltb-false a b (sym e) in
         first_beside keys q l.apart.alone l.t b a l.goes_on l.front l.within l.all i u.key u.is u.front (omega arith) (first_less u)
 
-    -- the child of an edge along which the keys continue with another byte is beside q's place
+    -- the child of an edge along which the keys continue with another byte is beside q's gap
     abbrev pub beside_at_edge : (is_after : Bool) → is_after ≡ ltb a b → IsChildBeside P keys nodes q c is_after
     beside_at_edge is_after e = record { root = l.apart.root; shape = l.apart.shape; front = l.front; covers = l.covers; alone = l.apart.alone; beside = end_along is_after e }

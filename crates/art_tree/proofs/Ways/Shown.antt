@@ -20,7 +20,7 @@ use Rattle.art_kinds.specs.declared.records.ids.Child.TheVariants.{Leaf, Inner}
 use Rattle.art_kinds.specs.declared.records.ids.Edge.{Edge}
 use Rattle.art_tree.specs.declared.tree.descent.Fork.{Fork}
 use Rattle.art_tree.specs.declared.tree.descent.Fork.TheVariants as fork
-use Rattle.art_tree.specs.declared.tree.point.Place.{Place}
+use Rattle.art_tree.specs.declared.tree.point.Gap.{Gap}
 use Rattle.art_tree.proofs.BeginsLemmas.{Begins-edge_front, Begins-linear, Begins-take, take_front}
 use Rattle.art_tree.proofs.Invariant.Growing.{covers_above}
 
@@ -99,28 +99,28 @@ next_there : (is_after : Bool) (es : List Edge) (b : ℕ) (e : Edge) → IsNextT
 next_there true es b e n = n.1
 next_there false es b e n = n.1
 
--- the fork of a place that was found by a descent is right
-module _ {P : ℕ} (keys : ℕ → Option Bytes) (nodes : ℕ → Option Node) (root : Option Child) (s : Shape P keys nodes root) (place : Place) (key : Bytes) (is : keys place.nearest ≡ Some key) (above : Option (ℕ × ℕ)) (depth : ℕ) (deep : place.depth ≡ depth) where
-  under : (g : Bytes) → (is_first : Bool) → IsEndUnder keys is_first g place.nearest → Begins g key
-  under g is_first u = let own : keys place.nearest ≡ Some u.key = u.is in let same : u.key ≡ key = cc in subst (λ (z : Bytes). Begins g z) same u.front
+-- the fork of a gap that was found by a descent is right
+module _ {P : ℕ} (keys : ℕ → Option Bytes) (nodes : ℕ → Option Node) (root : Option Child) (s : Shape P keys nodes root) (gap : Gap) (key : Bytes) (is : keys gap.nearest ≡ Some key) (above : Option (ℕ × ℕ)) (depth : ℕ) (deep : gap.depth ≡ depth) where
+  under : (g : Bytes) → (is_first : Bool) → IsEndUnder keys is_first g gap.nearest → Begins g key
+  under g is_first u = let own : keys gap.nearest ≡ Some u.key = u.is in let same : u.key ≡ key = cc in subst (λ (z : Bytes). Begins g z) same u.front
 
   -- at a node
-  pub shown_at_node : (n : ℕ) → place.fork ≡ fork.Node above n → LeadsTo nodes root above (Inner n) → (x : Node) → nodes n ≡ Some x → (b : ℕ) (q : Bytes) (l : LeavesAtNode P keys nodes n b q) → depth ≡ length (l.apart.shape.front_of n)
-      → (is_after : Bool) (e : Edge) → IsNextTo is_after x.edges b e → ((g : Bytes) → Covers keys nodes s.front_of g e.to → IsEndUnder keys (not is_after) g place.nearest) → ForkFits nodes root s.front_of key place.depth place.fork
+  pub shown_at_node : (n : ℕ) → gap.fork ≡ fork.Node above n → LeadsTo nodes root above (Inner n) → (x : Node) → nodes n ≡ Some x → (b : ℕ) (q : Bytes) (l : LeavesAtNode P keys nodes n b q) → depth ≡ length (l.apart.shape.front_of n)
+      → (is_after : Bool) (e : Edge) → IsNextTo is_after x.edges b e → ((g : Bytes) → Covers keys nodes s.front_of g e.to → IsEndUnder keys (not is_after) g gap.nearest) → ForkFits nodes root s.front_of key gap.depth gap.fork
   shown_at_node n fork_is leads x x_is b q l d is_after e next end =
       let covers = (s.node n x x_is).below e.byte e.to (next_there is_after x.edges b e next) in
       let own : x.depth ≡ length (l.apart.shape.front_of n) = (l.apart.shape.node n x x_is).depth in
       let front : Begins (s.front_of n) key = Begins-edge_front (s.front_of n) key e.byte (under (s.front_of n ++ e.byte ∷ []) (not is_after) (end (s.front_of n ++ e.byte ∷ []) covers)) in
-      subst (λ (z : Fork). ForkFits nodes root s.front_of key place.depth z) (sym fork_is)
-      (shown_front keys nodes root s place.nearest place.depth key is above n x x_is (own ∙ sym d ∙ sym deep) leads front)
+      subst (λ (z : Fork). ForkFits nodes root s.front_of key gap.depth z) (sym fork_is)
+      (shown_front keys nodes root s gap.nearest gap.depth key is above n x x_is (own ∙ sym d ∙ sym deep) leads front)
 
   -- at an edge
-  pub shown_at_edge : place.depth ≤ length key → (c : Child) → place.fork ≡ fork.Edge above c → LeadsTo nodes root above c → EndsBelow nodes above depth → PastDepth nodes depth c
-      → (is_first : Bool) → ((g : Bytes) → Covers keys nodes s.front_of g c → IsEndUnder keys is_first g place.nearest) → ForkFits nodes root s.front_of key place.depth place.fork
+  pub shown_at_edge : gap.depth ≤ length key → (c : Child) → gap.fork ≡ fork.Edge above c → LeadsTo nodes root above c → EndsBelow nodes above depth → PastDepth nodes depth c
+      → (is_first : Bool) → ((g : Bytes) → Covers keys nodes s.front_of g c → IsEndUnder keys is_first g gap.nearest) → ForkFits nodes root s.front_of key gap.depth gap.fork
   shown_at_edge long c fork_is leads ends past is_first end =
       let g = edge_front s.front_of above in
       let front : Begins g key = under g is_first (end g (covers_above keys nodes root s above c leads)) in
-      let ends' : EndsBelow nodes above place.depth = subst (λ (d : ℕ). EndsBelow nodes above d) (sym deep) ends in
-      let past' : PastDepth nodes place.depth c = subst (λ (d : ℕ). PastDepth nodes d c) (sym deep) past in
-      subst (λ (z : Fork). ForkFits nodes root s.front_of key place.depth z) (sym fork_is)
-      (shown_past keys nodes root s place.nearest place.depth key is above c long leads ends' front past')
+      let ends' : EndsBelow nodes above gap.depth = subst (λ (d : ℕ). EndsBelow nodes above d) (sym deep) ends in
+      let past' : PastDepth nodes gap.depth c = subst (λ (d : ℕ). PastDepth nodes d c) (sym deep) past in
+      subst (λ (z : Fork). ForkFits nodes root s.front_of key gap.depth z) (sym fork_is)
+      (shown_past keys nodes root s gap.nearest gap.depth key is above c long leads ends' front past')

@@ -6,11 +6,11 @@ use Rattle.std.proofs.lemmas.List.{length-take}
 use Rattle.blart_keys.specs.Bytes.{common, related}
 use Rattle.blart_keys.proofs.Options.{not_some, some_of}
 use Rattle.art_tree.specs.Begins.{Bytes, Begins, next_byte}
-use Rattle.art_tree.specs.Places.{LeavesNearest}
+use Rattle.art_tree.specs.Gaps.{LeavesNearest}
 use Rattle.art_tree.specs.Invariant.EdgesAbove.{edge_front}
 use Rattle.art_tree.specs.Invariant.Shape.{Shape, Covers, CoversLeaf, CoversNode, NodeFits}
 use Rattle.art_tree.specs.Calls.Descents.{IsEndUnder}
-use Rattle.art_tree.specs.Calls.Stops.{IsShared, OnWay, IsPlaceUnder, KeyEnds, QueryEnds, LeavesAtNode, LeavesAtEdge, IsNextTo}
+use Rattle.art_tree.specs.Calls.Stops.{IsShared, OnWay, IsGapUnder, KeyEnds, QueryEnds, LeavesAtNode, LeavesAtEdge, IsNextTo}
 use Rattle.art_kinds.specs.Edges.{child_at}
 use Rattle.art_kinds.specs.Nodes.{Node}
 use Rattle.art_kinds.specs.declared.records.ids.Child.{Child}
@@ -417,11 +417,11 @@ module _ {P : ℕ} {keys : ℕ → Option Bytes} {nodes : ℕ → Option Node} {
           let s : length (common own_front q) ≡ start + length (common (drop start own_front) (drop start q)) = shared_after in
           record { is = omega arith; next = λ a b. absurd (omega arith) }
 
-  -- ---- the place beside a child
+  -- ---- the gap beside a child
 
-  pub place_at_node : {n depth : ℕ} {x : Node} → nodes n ≡ Some x → (l : LeavesAtNode P keys nodes n (get_or q depth 0) q) → depth ≡ length (l.apart.shape.front_of n) → depth < length q → (is_after : Bool) (e : Edge) → IsNextTo is_after x.edges (get_or q depth 0) e
-      → IsPlaceUnder P keys nodes q depth e.to is_after
-  place_at_node {n} {depth} {x} is l d lq is_after e next = record {
+  pub gap_at_node : {n depth : ℕ} {x : Node} → nodes n ≡ Some x → (l : LeavesAtNode P keys nodes n (get_or q depth 0) q) → depth ≡ length (l.apart.shape.front_of n) → depth < length q → (is_after : Bool) (e : Edge) → IsNextTo is_after x.edges (get_or q depth 0) e
+      → IsGapUnder P keys nodes q depth e.to is_after
+  gap_at_node {n} {depth} {x} is l d lq is_after e next = record {
     beside = beside_at_node keys nodes n (get_or q depth 0) q l x is is_after e next;
     leaves = λ i key key_is h. leaves_nearest keys q (l.apart.shape.front_of n) key (get_or q depth 0) e.byte depth d lq refl l.goes_on h i key_is l.none;
   }
@@ -438,5 +438,5 @@ module _ {P : ℕ} {keys : ℕ → Option Bytes} {nodes : ℕ → Option Node} {
     edge_leaves : (i : ℕ) (key : Bytes) → keys i ≡ Some key → Begins l.front key → LeavesNearest keys i depth q
     edge_leaves i key key_is h = leaves_nearest keys q l.t key (get_or q depth 0) a depth d lq refl l.goes_on (l.all i key key_is h) i key_is edge_alone
 
-    pub place_at_edge : (is_after : Bool) → is_after ≡ ltb a (get_or q depth 0) → IsPlaceUnder P keys nodes q depth c is_after
-    place_at_edge is_after e = record { beside = beside_at_edge keys nodes c a (get_or q depth 0) q l is_after e; leaves = edge_leaves }
+    pub gap_at_edge : (is_after : Bool) → is_after ≡ ltb a (get_or q depth 0) → IsGapUnder P keys nodes q depth c is_after
+    gap_at_edge is_after e = record { beside = beside_at_edge keys nodes c a (get_or q depth 0) q l is_after e; leaves = edge_leaves }

@@ -6,13 +6,13 @@ use Rattle.art_tree.specs.Begins.{Bytes, Begins}
 use Rattle.art_tree.specs.Invariant.EdgesAbove.{LeadsTo, edge_front}
 use Rattle.art_tree.specs.Invariant.Shape.{Shape, Covers}
 use Rattle.art_tree.specs.Calls.Descents.{IsEndUnder}
-use Rattle.art_tree.specs.Calls.Pruning.{IsBranch}
+use Rattle.art_tree.specs.Calls.Pruning.{IsSubtreeWith}
 use Rattle.art_tree.specs.Calls.Removing.{EndsBelow}
 use Rattle.art_tree.specs.Calls.Stops.{IsStop, IsStopBelow, top_of}
 use Rattle.art_kinds.specs.Nodes.{Node}
 use Rattle.art_kinds.specs.declared.records.ids.Child.{Child}
 use Rattle.art_kinds.specs.declared.records.ids.Child.TheVariants.{Leaf, Inner}
-use Rattle.art_tree.specs.declared.tree.descent.Branch.{Branch}
+use Rattle.art_tree.specs.declared.tree.descent.Subtree.{Subtree}
 use Rattle.art_tree.specs.declared.tree.stop.Stop.{Stop}
 use Rattle.art_tree.specs.declared.tree.stop.Stop.TheVariants.{Same, Shorter, Longer, AtNode, AtEdge}
 use Rattle.art_tree.proofs.BeginsLemmas.{Begins-itself, Begins-trans, Begins-linear, Begins-length, related-from_begun}
@@ -65,8 +65,8 @@ module _ {P : ℕ} {keys : ℕ → Option Bytes} {nodes : ℕ → Option Node} {
   no_top (AtNode n depth) e l j k k_is b = false≢true (sym (l.0.apart.alone j k k_is) ∙ related-from_begun k q b)
   no_top (AtEdge d depth byte) e l j k k_is b = false≢true (sym (l.0.apart.alone j k k_is) ∙ related-from_begun k q b)
 
-  -- the child below such an edge, with the first leaf below it, is the branch of q
-  module _ (b : Branch) (top : IsTop P keys nodes q b.child) (leads : LeadsTo nodes root b.above b.child) (ends : EndsBelow nodes b.above (length q)) (first : IsEndUnder keys true (edge_front s.front_of b.above) b.first) (own : IsEndUnder keys true q b.first) where
+  -- the child below such an edge, with the first leaf below it, is the subtree of q
+  module _ (b : Subtree) (top : IsTop P keys nodes q b.child) (leads : LeadsTo nodes root b.above b.child) (ends : EndsBelow nodes b.above (length q)) (first : IsEndUnder keys true (edge_front s.front_of b.above) b.first) (own : IsEndUnder keys true q b.first) where
     abbrev front : Bytes
     front = edge_front s.front_of b.above
 
@@ -93,5 +93,5 @@ module _ {P : ℕ} {keys : ℕ → Option Bytes} {nodes : ℕ → Option Node} {
           only = λ j k is h. over.only j k is (Begins-trans front q k front_along h);
         }
 
-    pub is_branch : IsBranch keys nodes root s.front_of q b
-    is_branch = record { leads = leads; along = front_along; covers = top_here b.child (covers_above keys nodes root s b.above b.child leads) top.covers }
+    pub is_subtree : IsSubtreeWith keys nodes root s.front_of q b
+    is_subtree = record { leads = leads; along = front_along; covers = top_here b.child (covers_above keys nodes root s b.above b.child leads) top.covers }

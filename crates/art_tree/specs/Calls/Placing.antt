@@ -3,7 +3,7 @@ use Rattle.std.specs.Prelude.{◌≡◌, ◌≢◌, ◌<◌, ◌≤◌, ◌⊎�
 use Rattle.blart_keys.specs.Content.{IsPut}
 use Rattle.art_tree.specs.Begins.{Bytes}
 use Rattle.art_tree.specs.Content.{Content}
-use Rattle.art_tree.specs.Places.{LeavesNearest}
+use Rattle.art_tree.specs.Gaps.{LeavesNearest}
 use Rattle.art_tree.specs.Leaves.{Leaves, Numbered, leaf_in, OthersStand, bytes, room as leaves_room}
 use Rattle.art_kinds.specs.Edges.{child_at}
 use Rattle.art_kinds.specs.Nodes.{Node, Nodes, Makes, room}
@@ -13,7 +13,7 @@ use Rattle.art_kinds.specs.declared.records.ids.Child.{Child}
 use Rattle.art_kinds.specs.declared.records.ids.Child.TheVariants.{Leaf, Inner}
 use Rattle.art_kinds.specs.declared.records.ids.Edge.{Edge}
 use Rattle.art_tree.specs.declared.tree.descent.Fork.{Fork}
-use Rattle.art_tree.specs.declared.tree.point.Place.{Place}
+use Rattle.art_tree.specs.declared.tree.point.Gap.{Gap}
 use Rattle.art_tree.specs.declared.tree.point.Point.{Point}
 use Rattle.art_tree.specs.declared.tree.point.Point.TheVariants.{Empty, Exact, Related, Free}
 
@@ -39,23 +39,23 @@ IsShownIn P keys nodes root nearest depth fork =
     → ForkFits nodes root s.front_of key depth fork
 
 -- the same holds in each tree with this root
-abbrev pub IsShown : ℕ → (ℕ → Option Node) → Option Child → Place → Fork → Type 0
-IsShown P nodes root place fork = (keys : ℕ → Option Bytes) → IsShownIn P keys nodes root place.nearest place.depth fork
+abbrev pub IsShown : ℕ → (ℕ → Option Node) → Option Child → Gap → Fork → Type 0
+IsShown P nodes root gap fork = (keys : ℕ → Option Bytes) → IsShownIn P keys nodes root gap.nearest gap.depth fork
 
 -- if the point is free, this is true of its place
-abbrev pub IfFree : Point → (Place → Type 0) → Type 0
+abbrev pub IfFree : Point → (Gap → Type 0) → Type 0
 IfFree Empty T = Unit {0}
 IfFree (Exact id) T = Unit {0}
 IfFree (Related first last) T = Unit {0}
-IfFree (Free place) T = T place
+IfFree (Free gap) T = T gap
 
 -- in some tree, this is the key of the place's nearest leaf, and the fork is right if it is known
-pub record HasNearest (P : ℕ) (nodes : ℕ → Option Node) (root : Option Child) (place : Place) (shown : Option Fork) (nearest : Bytes) : Type 0 where
+pub record HasNearest (P : ℕ) (nodes : ℕ → Option Node) (root : Option Child) (gap : Gap) (shown : Option Fork) (nearest : Bytes) : Type 0 where
   pub keys : ℕ → Option Bytes
   pub shape : Shape P keys nodes root
-  pub is : keys place.nearest ≡ Some nearest
-  pub within : place.depth ≤ length nearest
-  pub known : IfSome shown (IsShownIn P keys nodes root place.nearest place.depth)
+  pub is : keys gap.nearest ≡ Some nearest
+  pub within : gap.depth ≤ length nearest
+  pub known : IfSome shown (IsShownIn P keys nodes root gap.nearest gap.depth)
 
 -- the node has this depth, and its edge by this byte leads to the leaf
 pub record IsOverLeaf (nodes : ℕ → Option Node) (n depth byte leaf : ℕ) : Type 0 where

@@ -1,4 +1,4 @@
--- The removal of a branch: the edge to it, and the nodes and the keys below that edge.
+-- The removal of a subtree: the edge to it, and the nodes and the keys below that edge.
 use Rattle.std.specs.Prelude.{◌≡◌, ◌⊎◌, ℕ, Bool, true, false, ◌<◌, ◌^◌, List, length, Option, Some, None, IsSome}
 use Rattle.art_tree.specs.Begins.{Bytes, Begins}
 use Rattle.art_tree.specs.Invariant.EdgesAbove.{LeadsTo, edge_front}
@@ -8,10 +8,10 @@ use Rattle.art_kinds.specs.Nodes.{Node, Nodes, at, live}
 use Rattle.art_kinds.specs.declared.records.ids.Child.{Child}
 use Rattle.art_kinds.specs.declared.records.ids.Child.TheVariants.{Inner}
 use Rattle.art_kinds.specs.declared.records.ids.Edge.{Edge}
-use Rattle.art_tree.specs.declared.tree.descent.Branch.{Branch}
+use Rattle.art_tree.specs.declared.tree.descent.Subtree.{Subtree}
 
 -- the edge leads to the child, its front is a prefix of q, and the keys with prefix q are below
-pub record IsBranch (keys : ℕ → Option Bytes) (nodes : ℕ → Option Node) (root : Option Child) (front_of : ℕ → Bytes) (q : Bytes) (b : Branch) : Type 0 where
+pub record IsSubtreeWith (keys : ℕ → Option Bytes) (nodes : ℕ → Option Node) (root : Option Child) (front_of : ℕ → Bytes) (q : Bytes) (b : Subtree) : Type 0 where
   pub leads : LeadsTo nodes root b.above b.child
   pub along : Begins (edge_front front_of b.above) q
   pub covers : Covers keys nodes front_of q b.child

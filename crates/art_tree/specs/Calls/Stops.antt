@@ -4,7 +4,7 @@ use Rattle.blart_keys.specs.Bytes.{common, related}
 use Rattle.art_tree.specs.Begins.{Bytes, Begins}
 use Rattle.art_tree.specs.Invariant.EdgesAbove.{LeadsTo, edge_front}
 use Rattle.art_tree.specs.Invariant.Shape.{Shape, Covers}
-use Rattle.art_tree.specs.Places.{LeavesNearest, IsBeside}
+use Rattle.art_tree.specs.Gaps.{LeavesNearest, IsBeside}
 use Rattle.art_tree.specs.Calls.Descents.{IsEndUnder}
 use Rattle.art_tree.specs.Calls.Removing.{EndsBelow}
 use Rattle.art_kinds.specs.Edges.{child_at, IsNext, IsPrevious}
@@ -12,8 +12,8 @@ use Rattle.art_kinds.specs.Nodes.{Node}
 use Rattle.art_kinds.specs.declared.records.ids.Child.{Child}
 use Rattle.art_kinds.specs.declared.records.ids.Child.TheVariants.{Leaf, Inner}
 use Rattle.art_kinds.specs.declared.records.ids.Edge.{Edge}
-use Rattle.art_tree.specs.declared.tree.point.Beside.{Beside}
-use Rattle.art_tree.specs.declared.tree.point.Beside.TheVariants.{AfterLeaf, BeforeLeaf}
+use Rattle.art_tree.specs.declared.tree.point.Neighbour.{Neighbour}
+use Rattle.art_tree.specs.declared.tree.point.Neighbour.TheVariants.{AfterLeaf, BeforeLeaf}
 use Rattle.art_tree.specs.declared.tree.stop.Stop.{Stop}
 use Rattle.art_tree.specs.declared.tree.stop.Stop.TheVariants.{Same, Shorter, Longer, AtNode, AtEdge}
 use Rattle.art_tree.specs.declared.tree.stop.Step.{Step}
@@ -60,8 +60,8 @@ pub record KeyEnds (keys : ℕ → Option Bytes) (i : ℕ) (q : Bytes) : Type 0 
   pub begins : Begins key q
   pub shorter : length key < length q
 
--- a place after a leaf, or before it
-abbrev pub beside_leaf : Bool → ℕ → Beside
+-- a gap after a leaf, or before it
+abbrev pub beside_leaf : Bool → ℕ → Neighbour
 beside_leaf true i = AfterLeaf i
 beside_leaf false i = BeforeLeaf i
 
@@ -101,7 +101,7 @@ module _ (P : ℕ) (keys : ℕ → Option Bytes) (nodes : ℕ → Option Node) w
     pub goes_on : Begins (t ++ byte ∷ []) q
     pub other : nearest_byte ≢ byte
 
-  -- a child beside the place of q: the last or the first leaf below it is beside q
+  -- a child beside the gap of q: the last or the first leaf below it is beside q
   pub record IsChildBeside (q : Bytes) (child : Child) (is_after : Bool) : Type 0 where
     pub root : Option Child
     pub shape : Shape P keys nodes root
@@ -143,7 +143,7 @@ module _ (P : ℕ) (keys : ℕ → Option Bytes) (nodes : ℕ → Option Node) w
   IsStep n start (Down child next byte) q = OnWay child next q × ((x : Node) × (nodes n ≡ Some x) × (child_at x.edges byte ≡ Some child) × (next ≡ x.depth + 1))
   IsStep n start (Stops stop) q = IsStop stop q × StopsAt nodes (Inner n) start stop
 
-  -- the child is beside the place of q, and q leaves each key below it after `depth` bytes
-  pub record IsPlaceUnder (q : Bytes) (depth : ℕ) (child : Child) (is_after : Bool) : Type 0 where
+  -- the child is beside the gap of q, and q leaves each key below it after `depth` bytes
+  pub record IsGapUnder (q : Bytes) (depth : ℕ) (child : Child) (is_after : Bool) : Type 0 where
     pub beside : IsChildBeside q child is_after
     pub leaves : (i : ℕ) (key : Bytes) → keys i ≡ Some key → Begins beside.front key → LeavesNearest keys i depth q

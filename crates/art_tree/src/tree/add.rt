@@ -1,7 +1,7 @@
 //! Pairs that are added by their keys.
 ghost use Rattle.std.specs.Prelude.{◌≡◌, ◌+◌, ◌<◌, ◌≤◌, [], Some, Ok, IfOk, OnOk, OnErr};
 ghost use Rattle.art_tree.specs.Leaves.{keys_in, room as leaves_room};
-ghost use Rattle.art_tree.specs.Content.{room as places};
+ghost use Rattle.art_tree.specs.Content.{room as room_of};
 ghost use Rattle.art_tree.specs.Points.{IsFree};
 ghost use Rattle.art_tree.specs.Invariant.Sound.{IsSound};
 ghost use Rattle.art_tree.specs.Adding.{Adds};
@@ -10,7 +10,7 @@ ghost use Rattle.art_kinds.specs.Nodes.{at, room, SameNodes};
 
 use crate::tree::Tree;
 use crate::tree::place::{place_beside, place_first};
-use crate::tree::point::{Place, Point, point_below};
+use crate::tree::point::{Gap, Point, point_below};
 use crate::tree::skeleton::Skeleton;
 use art_kinds::Nodes;
 use art_rows::Leaves;
@@ -39,7 +39,7 @@ impl<K: AsBytes + Drop, V: Drop, const PREFIX_LEN: usize> Tree<K, V, PREFIX_LEN>
     /// Cost: one descent. If no stored key is related to the key, it also allocates for one pair.
     pub fn add(&mut self, key: K, value: V) -> Result<Added<LeafId, K, V>, AllocError>
         ensures added { Adds K.bytes self.old self.new (key, value) result }
-        ensures room { places self.old ≤ places self.new + 1 }
+        ensures room { room_of self.old ≤ room_of self.new + 1 }
     {
         self.leaves.law();
         let root = match self.skeleton.root {
@@ -53,8 +53,8 @@ impl<K: AsBytes + Drop, V: Drop, const PREFIX_LEN: usize> Tree<K, V, PREFIX_LEN>
             Point::Exact(id) => Ok(Added::Stored(id, key, value)),
             Point::Related { first, .. } => Ok(Added::Conflict(first, key, value)),
             Point::Empty => unreachable!(),
-            Point::Free(place) => {
-                add_beside(&mut self.leaves, &mut self.skeleton, &place, key, value)?;
+            Point::Free(gap) => {
+                add_beside(&mut self.leaves, &mut self.skeleton, &gap, key, value)?;
                 Ok(Added::Placed)
             }
         }
@@ -65,9 +65,9 @@ impl<K: AsBytes + Drop, V: Drop, const PREFIX_LEN: usize> Tree<K, V, PREFIX_LEN>
     ///
     /// Cost: as for [`Tree::add`], and does not allocate.
     pub fn add_within(&mut self, key: K, value: V) -> Added<LeafId, K, V>
-        requires room { 0 < places self.old }
+        requires room { 0 < room_of self.old }
         ensures added { Adds K.bytes self.old self.new (key, value) (Ok result) }
-        ensures room { places self.old ≤ places self.new + 1 }
+        ensures room { room_of self.old ≤ room_of self.new + 1 }
     {
         self.leaves.law();
         let root = match self.skeleton.root {
@@ -81,12 +81,12 @@ impl<K: AsBytes + Drop, V: Drop, const PREFIX_LEN: usize> Tree<K, V, PREFIX_LEN>
             Point::Exact(id) => Added::Stored(id, key, value),
             Point::Related { first, .. } => Added::Conflict(first, key, value),
             Point::Empty => unreachable!(),
-            Point::Free(place) => {
-                let shown = Some(place.fork);
+            Point::Free(gap) => {
+                let shown = Some(gap.fork);
                 place_beside(
                     &mut self.leaves,
                     &mut self.skeleton,
-                    &place,
+                    &gap,
                     &shown,
                     key,
                     value,
@@ -122,19 +122,19 @@ fn add_first<K: AsBytes + Drop, V: Drop, const P: usize>(
     Ok(place_first(leaves, skeleton, key, value))
 }
 
-/// Adds a pair at a free place whose fork is right, and returns its leaf. Returns an error if it
+/// Adds a pair at a gap whose fork is right, and returns its leaf. Returns an error if it
 /// fails to allocate.
 fn add_beside<K: AsBytes + Drop, V: Drop, const P: usize>(
     leaves: &mut Leaves<K, V>,
     skeleton: &mut Skeleton<P>,
-    place: &Place,
+    gap: &Gap,
     key: K,
     value: V,
 ) -> Result<LeafId, AllocError>
     requires whole { IsSound K.bytes P leaves.old skeleton.old.nodes skeleton.old.root }
-    requires free { IsFree K.bytes leaves.old.pairs place.now (K.bytes key) }
+    requires free { IsFree K.bytes leaves.old.pairs gap.now (K.bytes key) }
     requires fork { IsShownIn P (keys_in K.bytes leaves.old.pairs) (at skeleton.old.nodes)
-        skeleton.old.root place.now.nearest place.now.depth place.now.fork }
+        skeleton.old.root gap.now.nearest gap.now.depth gap.now.fork }
     ensures placed { IfOk result
         (λ id. PutsPair K.bytes leaves.old.pairs leaves.new.pairs id (key, value)) }
     ensures whole { OnOk result
@@ -147,8 +147,8 @@ fn add_beside<K: AsBytes + Drop, V: Drop, const P: usize>(
 {
     leaves.law();
     make_room_beside(leaves, &mut skeleton.nodes)?;
-    let shown = Some(place.fork);
-    Ok(place_beside(leaves, skeleton, place, &shown, key, value))
+    let shown = Some(gap.fork);
+    Ok(place_beside(leaves, skeleton, gap, &shown, key, value))
 }
 
 /// Makes room for one more pair beside others. Returns an error if it fails to allocate.

@@ -39,7 +39,7 @@ impl Fork {
 /// The part of a tree that has the pairs with some prefix: the edge above it, the child at its top,
 /// and its first and last leaf.
 #[derive(Clone, Copy)]
-pub(crate) struct Branch {
+pub(crate) struct Subtree {
     pub(crate) above: EdgeAbove,
     pub(crate) child: Child,
     pub(crate) first: LeafId,
@@ -73,7 +73,7 @@ pub(crate) fn end_under<const P: usize>(
     }
 }
 
-/// Returns the end of the keys below a child that is next to a place after or before them.
+/// Returns the end of the keys below a child that is next to a gap after or before them.
 pub(crate) fn end_near(is_after: bool) -> End
     ensures { is_first result ≡ not is_after }
 {

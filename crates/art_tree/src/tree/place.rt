@@ -4,7 +4,7 @@ ghost use Rattle.art_tree.specs.Begins.{Bytes};
 ghost use Rattle.art_tree.specs.Invariant.Shape.{Shape};
 ghost use Rattle.art_tree.specs.Calls.Forks.{ForkFits};
 ghost use Rattle.art_tree.specs.Invariant.EdgesAbove.{LeadsTo};
-ghost use Rattle.art_tree.specs.Content.{Fits, IsOpen, room as places};
+ghost use Rattle.art_tree.specs.Content.{Fits, IsOpen, room as room_of};
 ghost use Rattle.art_tree.specs.Calls.Placing.{IsForkFor, HasNearest, IsShown, IsShownIn, IsOverLeaf, IsToJoin, TreeGains, MakesNodeOfTwo, DepthWithin, KeepsFrom, PutsPair, content_of};
 ghost use Rattle.art_kinds.specs.Nodes.{at, room, FitsNew, SameSpares};
 ghost use Rattle.art_tree.specs.Leaves.{keys_in, room as leaves_room};
@@ -14,7 +14,7 @@ ghost use Rattle.art_tree.specs.Invariant.Sound.{IsSound};
 ghost use Rattle.art_kinds.specs.declared.records.ids.Child.TheVariants.{Inner};
 
 use crate::tree::descent::{Fork, locate};
-use crate::tree::point::{Place, Point, leaf_before};
+use crate::tree::point::{Gap, Point, leaf_before};
 use crate::tree::skeleton::{EdgeAbove, Skeleton, start_below};
 use art_kinds::{Child, Edge, NodeId, Nodes};
 use art_rows::{Leaves, Position};
@@ -43,14 +43,14 @@ pub(crate) fn place_at<K: AsBytes + Drop, V: Drop, const P: usize>(
     requires fits { Fits (content_of leaves.old skeleton.old.nodes) point.now }
     ensures placed { PutsPair K.bytes leaves.old.pairs leaves.new.pairs result (key, value) }
     ensures whole { IsSound K.bytes P leaves.new skeleton.new.nodes skeleton.new.root }
-    ensures room { places (content_of leaves.old skeleton.old.nodes)
-        ≤ places (content_of leaves.new skeleton.new.nodes) + 1 }
+    ensures room { room_of (content_of leaves.old skeleton.old.nodes)
+        ≤ room_of (content_of leaves.new skeleton.new.nodes) + 1 }
 {
     match point {
         Point::Empty => place_first(leaves, skeleton, key, value),
-        Point::Free(place) => {
-            let shown = fork_shown(skeleton, place);
-            place_beside(leaves, skeleton, place, &shown, key, value)
+        Point::Free(gap) => {
+            let shown = fork_shown(skeleton, gap);
+            place_beside(leaves, skeleton, gap, &shown, key, value)
         }
         _ => unreachable!(),
     }
@@ -82,15 +82,15 @@ pub(crate) fn place_first<K: AsBytes + Drop, V: Drop, const P: usize>(
 pub(crate) fn place_beside<K: AsBytes + Drop, V: Drop, const P: usize>(
     leaves: &mut Leaves<K, V>,
     skeleton: &mut Skeleton<P>,
-    place: &Place,
+    gap: &Gap,
     shown: &Option<Fork>,
     key: K,
     value: V,
 ) -> LeafId
     requires whole { IsSound K.bytes P leaves.old skeleton.old.nodes skeleton.old.root }
-    requires free { IsFree K.bytes leaves.old.pairs place.now (K.bytes key) }
+    requires free { IsFree K.bytes leaves.old.pairs gap.now (K.bytes key) }
     requires shown { IfSome shown.now (IsShownIn P (keys_in K.bytes leaves.old.pairs)
-        (at skeleton.old.nodes) skeleton.old.root place.now.nearest place.now.depth) }
+        (at skeleton.old.nodes) skeleton.old.root gap.now.nearest gap.now.depth) }
     requires leaves_room { 0 < leaves_room leaves.old }
     requires nodes_room { 0 < room skeleton.old.nodes }
     ensures placed { PutsPair K.bytes leaves.old.pairs leaves.new.pairs result (key, value) }
@@ -99,9 +99,9 @@ pub(crate) fn place_beside<K: AsBytes + Drop, V: Drop, const P: usize>(
     ensures nodes_room { room skeleton.old.nodes ≤ room skeleton.new.nodes + 1 }
 {
     leaves.law();
-    let (prev, seen) = leaf_before(leaves, &place.beside);
+    let (prev, seen) = leaf_before(leaves, &gap.beside);
     let id = leaves.insert(prev, seen, key, value);
-    skeleton.join(leaves, place, shown, id);
+    skeleton.join(leaves, gap, shown, id);
     id
 }
 
@@ -113,17 +113,17 @@ impl<const P: usize> Skeleton<P> {
     ghost use Rattle.art_tree.specs.Leaves.{keys_in};
     ghost use Rattle.art_kinds.specs.Nodes.{at, room, FitsNew};
 
-    /// Adds a leaf at a place. `shown` is the fork at which its key parts from the others, if that
+    /// Adds a leaf at a gap. `shown` is the fork at which its key parts from the others, if that
     /// is known. Reads the nearest leaf unless that fork is a node.
     fn join<K: AsBytes, V>(
         &mut self,
         leaves: &Leaves<K, V>,
-        place: &Place,
+        gap: &Gap,
         shown: &Option<Fork>,
         id: LeafId,
     )
         requires joins { IsToJoin P (keys_in K.bytes leaves.now.pairs) (at self.old.nodes)
-            self.old.root place.now.nearest place.now.depth shown.now id }
+            self.old.root gap.now.nearest gap.now.depth shown.now id }
         requires room { 0 < room self.old.nodes }
         ensures shape { Shape P (keys_in K.bytes leaves.now.pairs) (at self.new.nodes)
             self.new.root }
@@ -133,15 +133,15 @@ impl<const P: usize> Skeleton<P> {
         let leaf = NewLeaf {
             id,
             key: own.as_bytes(),
-            depth: place.depth,
+            depth: gap.depth,
         };
         let known = *shown;
         if let Some(Fork::Node(above, node)) = known {
             return self.add_at_node(&above, &node, &leaf);
         }
-        let (nearest, _) = leaves.read(place.nearest, &mut Visits::new());
+        let (nearest, _) = leaves.read(gap.nearest, &mut Visits::new());
         let nearest = nearest.as_bytes();
-        let fork = fork_for(self, place, shown, nearest);
+        let fork = fork_for(self, gap, shown, nearest);
         self.add_leaf(&fork, &leaf, nearest);
     }
 
@@ -206,45 +206,45 @@ impl<const P: usize> Skeleton<P> {
     }
 }
 
-/// Returns the fork at which a key parts from the nearest key at the depth of a place. It is the
+/// Returns the fork at which a key parts from the nearest key at the depth of a gap. It is the
 /// fork that is known, or else the end of a descent by the nearest key.
 fn fork_for<const P: usize>(
     skeleton: &Skeleton<P>,
-    place: &Place,
+    gap: &Gap,
     shown: &Option<Fork>,
     nearest: &[u8],
 ) -> Fork
-    requires { HasNearest P (at skeleton.now.nodes) skeleton.now.root place.now shown.now
+    requires { HasNearest P (at skeleton.now.nodes) skeleton.now.root gap.now shown.now
         nearest.now }
-    ensures { (h : HasNearest P (at skeleton.now.nodes) skeleton.now.root place.now shown.now
+    ensures { (h : HasNearest P (at skeleton.now.nodes) skeleton.now.root gap.now shown.now
         nearest.now)
         → ForkFits (at skeleton.now.nodes)
-        skeleton.now.root h.shape.front_of nearest.now place.now.depth result }
+        skeleton.now.root h.shape.front_of nearest.now gap.now.depth result }
 {
     match shown {
         Some(fork) => *fork,
         None => match skeleton.root {
-            Some(root) => locate(&skeleton.nodes, &root, nearest, place.depth),
+            Some(root) => locate(&skeleton.nodes, &root, nearest, gap.depth),
             None => unreachable!(),
         },
     }
 }
 
-/// Returns the fork of a place as it is now. Returns `None` if the edge above it no longer leads to
-/// the nearest leaf, or to a node at the place's depth with an edge to that leaf. Reads no leaf.
-fn fork_shown<const P: usize>(skeleton: &Skeleton<P>, place: &Place) -> Option<Fork>
-    ensures { IfSome result (IsShown P (at skeleton.now.nodes) skeleton.now.root place.now) }
+/// Returns the fork of a gap as it is now. Returns `None` if the edge above it no longer leads to
+/// the nearest leaf, or to a node at the gap's depth with an edge to that leaf. Reads no leaf.
+fn fork_shown<const P: usize>(skeleton: &Skeleton<P>, gap: &Gap) -> Option<Fork>
+    ensures { IfSome result (IsShown P (at skeleton.now.nodes) skeleton.now.root gap.now) }
 {
-    let (above, child) = edge_toward(skeleton, place)?;
+    let (above, child) = edge_toward(skeleton, gap)?;
     match child {
         Child::Leaf(id) => {
-            if id != place.nearest {
+            if id != gap.nearest {
                 return None;
             }
             Some(Fork::Edge(above, Child::Leaf(id)))
         }
         Child::Inner(id) => {
-            if !is_over_nearest(&skeleton.nodes, &id, place) {
+            if !is_over_nearest(&skeleton.nodes, &id, gap) {
                 return None;
             }
             Some(Fork::Node(above, id))
@@ -252,45 +252,45 @@ fn fork_shown<const P: usize>(skeleton: &Skeleton<P>, place: &Place) -> Option<F
     }
 }
 
-/// Returns the edge above a place, and the child that it leads to, or `None` if that edge is gone
-/// or its node is not above the place.
-fn edge_toward<const P: usize>(skeleton: &Skeleton<P>, place: &Place) -> Option<(EdgeAbove, Child)>
+/// Returns the edge above a gap, and the child that it leads to, or `None` if that edge is gone
+/// or its node is not above the gap.
+fn edge_toward<const P: usize>(skeleton: &Skeleton<P>, gap: &Gap) -> Option<(EdgeAbove, Child)>
     ensures leads { IfSome result
         (λ e. LeadsTo (at skeleton.now.nodes) skeleton.now.root e.0 e.1) }
-    ensures ends { IfSome result (λ e. EndsBelow (at skeleton.now.nodes) e.0 place.now.depth) }
+    ensures ends { IfSome result (λ e. EndsBelow (at skeleton.now.nodes) e.0 gap.now.depth) }
 {
-    let Some((parent, byte)) = place.fork.above() else {
+    let Some((parent, byte)) = gap.fork.above() else {
         return Some((None, skeleton.root?));
     };
     if !skeleton.nodes.has(parent) {
         return None;
     }
     let node = skeleton.nodes.read(parent, &mut Visits::new());
-    if node.depth() >= place.depth {
+    if node.depth() >= gap.depth {
         return None;
     }
     let child = node.find(byte)?;
     Some((Some((parent, byte)), child))
 }
 
-/// Returns `true` if a node has the depth of a place, and its edge by the place's byte leads to the
+/// Returns `true` if a node has the depth of a gap, and its edge by the gap's byte leads to the
 /// nearest leaf.
-fn is_over_nearest<const P: usize>(nodes: &Nodes<P>, id: &NodeId, place: &Place) -> bool
+fn is_over_nearest<const P: usize>(nodes: &Nodes<P>, id: &NodeId, gap: &Gap) -> bool
     ensures { result ≡ true
-        → IsOverLeaf (at nodes.now) id.now place.now.depth place.now.byte place.now.nearest }
+        → IsOverLeaf (at nodes.now) id.now gap.now.depth gap.now.byte gap.now.nearest }
 {
     if !nodes.has(*id) {
         return false;
     }
     let node = nodes.read(*id, &mut Visits::new());
-    if node.depth() != place.depth {
+    if node.depth() != gap.depth {
         return false;
     }
-    let Some(child) = node.find(place.byte) else {
+    let Some(child) = node.find(gap.byte) else {
         return false;
     };
     match child {
-        Child::Leaf(leaf) => leaf == place.nearest,
+        Child::Leaf(leaf) => leaf == gap.nearest,
         Child::Inner(_) => false,
     }
 }

@@ -1,10 +1,10 @@
-//! Points: the leaf that has some bytes, or the place for a new one.
+//! Points: the leaf that has some bytes, or the gap for a new one.
 ghost use Rattle.std.specs.Prelude.{◌≡◌, ℕ, not, Option, Some};
 ghost use Rattle.art_tree.specs.Begins.{Bytes};
-ghost use Rattle.art_tree.specs.Places.{LeavesNearest, IsBeside, neighbour, number_before_place};
+ghost use Rattle.art_tree.specs.Gaps.{LeavesNearest, IsBeside, neighbour, number_before_gap};
 ghost use Rattle.art_tree.specs.Calls.Descents.{IsEndUnder};
 ghost use Rattle.art_tree.specs.Calls.Placing.{IfFree, IsShownIn};
-ghost use Rattle.art_tree.specs.Calls.Stops.{IsPlaceUnder};
+ghost use Rattle.art_tree.specs.Calls.Stops.{IsGapUnder};
 ghost use Rattle.art_tree.specs.Invariant.Shape.{Shape, Covers};
 ghost use Rattle.art_tree.specs.Leaves.{Has, keys_in};
 ghost use Rattle.art_kinds.specs.declared.records.ids.Child.{Child as Way};
@@ -19,28 +19,28 @@ use art_rows::{Leaves, Position};
 use art_slots::{LeafId, Visits};
 use blart_keys::AsBytes;
 
-/// The place of a key that is related to no stored key. It is good for the bytes that it was found
+/// The gap of a key that is related to no stored key. It is good for the bytes that it was found
 /// for, while the pairs are unchanged.
 #[derive(Clone, Copy)]
-pub struct Place {
+pub struct Gap {
     /// A leaf whose key has the first `depth` bytes in common with these. No key has more.
     pub(crate) nearest: LeafId,
     /// The number of bytes that the nearest key has in common with these.
     pub(crate) depth: usize,
-    /// The side of the nearest leaf that the place is on.
-    pub(crate) beside: Beside,
+    /// The side of the nearest leaf that the gap is on.
+    pub(crate) beside: Neighbour,
     /// The fork at which the bytes part from the keys. It may have changed since.
     pub(crate) fork: Fork,
     /// The byte of the nearest key after the first `depth` bytes.
     pub(crate) byte: u8,
 }
 
-/// A leaf beside a place.
+/// A leaf beside a gap.
 #[derive(Clone, Copy)]
-pub(crate) enum Beside {
-    /// The place is after this leaf.
+pub(crate) enum Neighbour {
+    /// The gap is after this leaf.
     AfterLeaf(LeafId),
-    /// The place is before this leaf.
+    /// The gap is before this leaf.
     BeforeLeaf(LeafId),
 }
 
@@ -58,8 +58,8 @@ pub enum Point {
         /// The last leaf with a related key.
         last: LeafId,
     },
-    /// No stored key is related to the bytes. A pair with them goes to this place.
-    Free(Place),
+    /// No stored key is related to the bytes. A pair with them goes to this gap.
+    Free(Gap),
 }
 
 /// Returns the point of some bytes in a tree with some pairs. If it is free, its fork is right.
@@ -71,8 +71,8 @@ pub(crate) fn point_below<K: AsBytes, V, const P: usize>(
 ) -> Point
     requires { IsSound K.bytes P leaves.now nodes.now (Some root.now) }
     ensures good { IsGood K.bytes leaves.now.pairs result query.now }
-    ensures fork { IfFree result (λ place. IsShownIn P (keys_in K.bytes leaves.now.pairs)
-        (at nodes.now) (Some root.now) place.nearest place.depth place.fork) }
+    ensures fork { IfFree result (λ gap. IsShownIn P (keys_in K.bytes leaves.now.pairs)
+        (at nodes.now) (Some root.now) gap.nearest gap.depth gap.fork) }
 {
     leaves.law();
     let mut visits = Visits::new();
@@ -90,32 +90,32 @@ pub(crate) fn point_below<K: AsBytes, V, const P: usize>(
         Stop::AtNode(id, depth) => {
             let (edge, is_after) = edge_beside(nodes, &id, query[depth], &mut visits);
             let fork = Fork::Node(above, id);
-            Point::Free(place_under(nodes, &edge, is_after, depth, &fork))
+            Point::Free(gap_under(nodes, &edge, is_after, depth, &fork))
         }
         Stop::AtEdge(child, depth, byte) => {
             let to = &child;
             let edge = Edge { byte, to: *to };
             let fork = Fork::Edge(above, *to);
-            Point::Free(place_under(nodes, &edge, byte < query[depth], depth, &fork))
+            Point::Free(gap_under(nodes, &edge, byte < query[depth], depth, &fork))
         }
     }
 }
 
-/// Returns the place beside an edge: after the keys below it, or before them.
-fn place_under<const P: usize>(
+/// Returns the gap beside an edge: after the keys below it, or before them.
+fn gap_under<const P: usize>(
     nodes: &Nodes<P>,
     edge: &Edge,
     is_after: bool,
     depth: usize,
     fork: &Fork,
-) -> Place
+) -> Gap
     requires { (keys : ℕ → Option Bytes) × (q : Bytes)
-        × IsPlaceUnder P keys (at nodes.now) q depth edge.now.to is_after }
+        × IsGapUnder P keys (at nodes.now) q depth edge.now.to is_after }
     ensures leaves { (keys : ℕ → Option Bytes) (q : Bytes)
-        → IsPlaceUnder P keys (at nodes.now) q depth edge.now.to is_after
+        → IsGapUnder P keys (at nodes.now) q depth edge.now.to is_after
         → LeavesNearest keys result.nearest result.depth q }
     ensures beside { (keys : ℕ → Option Bytes) (q : Bytes)
-        → IsPlaceUnder P keys (at nodes.now) q depth edge.now.to is_after
+        → IsGapUnder P keys (at nodes.now) q depth edge.now.to is_after
         → IsBeside keys q result.beside }
     ensures same { neighbour result.beside ≡ result.nearest }
     ensures end { (keys : ℕ → Option Bytes) (root : Option Way)
@@ -127,35 +127,35 @@ fn place_under<const P: usize>(
 {
     let nearest = end_under(nodes, &edge.to, end_near(is_after), &mut Visits::new());
     if is_after {
-        Place {
+        Gap {
             nearest,
             depth,
-            beside: Beside::AfterLeaf(nearest),
+            beside: Neighbour::AfterLeaf(nearest),
             fork: *fork,
             byte: edge.byte,
         }
     } else {
-        Place {
+        Gap {
             nearest,
             depth,
-            beside: Beside::BeforeLeaf(nearest),
+            beside: Neighbour::BeforeLeaf(nearest),
             fork: *fork,
             byte: edge.byte,
         }
     }
 }
 
-/// Returns the leaf before a place, if there is one, and a guess of its position.
+/// Returns the leaf before a gap, if there is one, and a guess of its position.
 pub(crate) fn leaf_before<K: AsBytes, V>(
     leaves: &Leaves<K, V>,
-    beside: &Beside,
+    beside: &Neighbour,
 ) -> (Option<LeafId>, Position)
     requires { Has leaves.now.pairs (neighbour beside.now) }
-    ensures { result.0 ≡ number_before_place leaves.now.pairs beside.now }
+    ensures { result.0 ≡ number_before_gap leaves.now.pairs beside.now }
 {
     match beside {
-        Beside::AfterLeaf(id) => (Some(*id), Position::unknown()),
-        Beside::BeforeLeaf(id) => {
+        Neighbour::AfterLeaf(id) => (Some(*id), Position::unknown()),
+        Neighbour::BeforeLeaf(id) => {
             let mut seen = Position::unknown();
             let prev = leaves.prev_from(*id, &mut seen);
             (prev, seen)

@@ -2,7 +2,7 @@
 ghost use Rattle.std.specs.Prelude.{◌≡◌, ℕ, length, Some};
 ghost use Rattle.blart_keys.specs.Content.{IsContent, under};
 ghost use Rattle.blart_keys.specs.Outside.{outside};
-ghost use Rattle.art_tree.specs.Calls.Pruning.{IsBranch};
+ghost use Rattle.art_tree.specs.Calls.Pruning.{IsSubtreeWith};
 ghost use Rattle.art_tree.specs.Invariant.Shape.{Shape};
 ghost use Rattle.art_tree.specs.Invariant.Sound.{IsSound};
 ghost use Rattle.art_tree.specs.Leaves.{leaf_in, keys_in, bytes};
@@ -10,8 +10,8 @@ ghost use Rattle.art_tree.specs.Seeks.{ends};
 ghost use Rattle.art_kinds.specs.Nodes.{at};
 
 use crate::tree::Tree;
-use crate::tree::descent::Branch;
-use crate::tree::seek::branch_below;
+use crate::tree::descent::Subtree;
+use crate::tree::seek::subtree_below;
 use crate::tree::skeleton::Skeleton;
 use art_rows::Leaves;
 use art_slots::{LeafId, Visits};
@@ -31,12 +31,12 @@ impl<K: AsBytes + Drop, V: Drop, const PREFIX_LEN: usize> Tree<K, V, PREFIX_LEN>
     {
         self.law();
         let before = self.len();
-        self.remove_branch(prefix);
+        self.remove_subtree(prefix);
         before - self.len()
     }
 
     /// Removes the pairs whose bytes begin with these.
-    fn remove_branch(&mut self, prefix: &[u8])
+    fn remove_subtree(&mut self, prefix: &[u8])
         ensures { self.new.pairs ≡ outside (bytes K.bytes) self.old.pairs prefix.now }
     {
         let Some(root) = self.skeleton.root else {
@@ -44,38 +44,38 @@ impl<K: AsBytes + Drop, V: Drop, const PREFIX_LEN: usize> Tree<K, V, PREFIX_LEN>
         };
         let mut visits = Visits::new();
         let nodes = &self.skeleton.nodes;
-        let Some(branch) = branch_below(&self.leaves, nodes, &root, prefix, &mut visits) else {
+        let Some(subtree) = subtree_below(&self.leaves, nodes, &root, prefix, &mut visits) else {
             return;
         };
-        prune(&mut self.leaves, &mut self.skeleton, &branch, prefix);
+        prune(&mut self.leaves, &mut self.skeleton, &subtree, prefix);
         self.leaves.law();
-        self.remove(branch.last);
+        self.remove(subtree.last);
     }
 }
 
-/// Removes the leaves of a branch but the last, and redirects the edge above the branch to that
+/// Removes the leaves of a subtree but the last, and redirects the edge above the subtree to that
 /// one.
 fn prune<K: AsBytes + Drop, V: Drop, const P: usize>(
     leaves: &mut Leaves<K, V>,
     skeleton: &mut Skeleton<P>,
-    branch: &Branch,
+    subtree: &Subtree,
     prefix: &[u8],
 )
     requires sound { IsSound K.bytes P leaves.old skeleton.old.nodes skeleton.old.root }
-    requires branch { (s : Shape P (keys_in K.bytes leaves.old.pairs) (at skeleton.old.nodes)
+    requires subtree { (s : Shape P (keys_in K.bytes leaves.old.pairs) (at skeleton.old.nodes)
         skeleton.old.root)
-        → IsBranch (keys_in K.bytes leaves.old.pairs) (at skeleton.old.nodes)
-        skeleton.old.root s.front_of prefix.now branch.now }
+        → IsSubtreeWith (keys_in K.bytes leaves.old.pairs) (at skeleton.old.nodes)
+        skeleton.old.root s.front_of prefix.now subtree.now }
     requires ends { ends (under (bytes K.bytes) leaves.old.pairs prefix.now)
-        ≡ Some (branch.now.first, branch.now.last) }
+        ≡ Some (subtree.now.first, subtree.now.last) }
     ensures sound { IsSound K.bytes P leaves.new skeleton.new.nodes skeleton.new.root }
     ensures ends { ends (under (bytes K.bytes) leaves.new.pairs prefix.now)
-        ≡ Some (branch.now.last, branch.now.last) }
+        ≡ Some (subtree.now.last, subtree.now.last) }
     ensures rest { outside (bytes K.bytes) leaves.new.pairs prefix.now
         ≡ outside (bytes K.bytes) leaves.old.pairs prefix.now }
 {
-    skeleton.free_subtree(&branch.above, &branch.child, &branch.last);
-    remove_leaves(leaves, branch.first, branch.last, prefix);
+    skeleton.free_subtree(&subtree.above, &subtree.child, &subtree.last);
+    remove_leaves(leaves, subtree.first, subtree.last, prefix);
     leaves.law();
 }
 

@@ -6,16 +6,16 @@ ghost use Rattle.blart_keys.specs.Content.{IsContent, under};
 ghost use Rattle.art_tree.specs.Leaves.{Has, keys_in, bytes};
 ghost use Rattle.art_tree.specs.Longest.{longest};
 ghost use Rattle.art_tree.specs.Seeks.{number_within, ends, bound_len};
-ghost use Rattle.art_tree.specs.Calls.Seeking.{IsPlaceOf, beside};
+ghost use Rattle.art_tree.specs.Calls.Seeking.{IsGapOf, beside};
 ghost use Rattle.art_tree.specs.Calls.Stops.{IsChildBeside};
 ghost use Rattle.art_tree.specs.Begins.{Bytes};
-ghost use Rattle.art_tree.specs.Calls.Pruning.{IsBranch};
+ghost use Rattle.art_tree.specs.Calls.Pruning.{IsSubtreeWith};
 ghost use Rattle.art_kinds.specs.Nodes.{at};
 ghost use Rattle.art_tree.specs.Invariant.Shape.{Shape};
 ghost use Rattle.art_tree.specs.Invariant.Sound.{IsSound};
 
 use crate::tree::Tree;
-use crate::tree::descent::{Branch, end_near, end_under};
+use crate::tree::descent::{Subtree, end_near, end_under};
 use crate::tree::stop::{Stop, edge_beside, stop_of};
 use art_kinds::{Child, End, Nodes};
 use art_rows::Leaves;
@@ -47,11 +47,11 @@ impl<K: AsBytes, V, const PREFIX_LEN: usize> Tree<K, V, PREFIX_LEN> {
         self.law();
         match bound {
             Bound::Unbounded => { if is_start { self.first() } else { self.last() } }
-            Bound::Included(query) => match self.find_place(query, visits) {
+            Bound::Included(query) => match self.find_gap(query, visits) {
                 Ok(id) => Some(id),
                 Err(prev) => self.side_of(prev, is_start),
             },
-            Bound::Excluded(query) => match self.find_place(query, visits) {
+            Bound::Excluded(query) => match self.find_gap(query, visits) {
                 Err(prev) => self.side_of(prev, is_start),
                 Ok(id) => {
                     if is_start {
@@ -87,8 +87,8 @@ impl<K: AsBytes, V, const PREFIX_LEN: usize> Tree<K, V, PREFIX_LEN> {
             None => None,
             Some(root) => {
                 let nodes = &self.skeleton.nodes;
-                let branch = branch_below(&self.leaves, nodes, &root, front, visits)?;
-                Some((branch.first, branch.last))
+                let subtree = subtree_below(&self.leaves, nodes, &root, front, visits)?;
+                Some((subtree.first, subtree.last))
             }
         }
     }
@@ -106,7 +106,7 @@ impl<K: AsBytes, V, const PREFIX_LEN: usize> Tree<K, V, PREFIX_LEN> {
         Some((first, last))
     }
 
-    /// Returns the leaf after a place if `is_after` is set, or else `prev`, the leaf before it.
+    /// Returns the leaf after a gap if `is_after` is set, or else `prev`, the leaf before it.
     fn side_of(&self, prev: Option<LeafId>, is_after: bool) -> Option<LeafId>
         requires { IfSome prev (Has self.now.pairs) }
         ensures { result ≡ beside prev self.now.pairs is_after }
@@ -120,9 +120,9 @@ impl<K: AsBytes, V, const PREFIX_LEN: usize> Tree<K, V, PREFIX_LEN> {
         }
     }
 
-    /// Returns the leaf with these bytes, or else the leaf before the place where they would go.
-    fn find_place(&self, query: &[u8], visits: &mut Visits) -> Result<LeafId, Option<LeafId>>
-        ensures stands { IsPlaceOf (keys_in K.bytes self.now.pairs) query.now result }
+    /// Returns the leaf with these bytes, or else the leaf before the gap where they would go.
+    fn find_gap(&self, query: &[u8], visits: &mut Visits) -> Result<LeafId, Option<LeafId>>
+        ensures stands { IsGapOf (keys_in K.bytes self.now.pairs) query.now result }
         ensures counted { visits.new.count
             ≤ visits.old.count + (length query.now + 2)
             * (longest (bytes K.bytes) self.now.pairs + 1) }
@@ -132,14 +132,14 @@ impl<K: AsBytes, V, const PREFIX_LEN: usize> Tree<K, V, PREFIX_LEN> {
     {
         match self.skeleton.root {
             None => Err(None),
-            Some(root) => place_below(&self.leaves, &self.skeleton.nodes, &root, query, visits),
+            Some(root) => gap_below(&self.leaves, &self.skeleton.nodes, &root, query, visits),
         }
     }
 }
 
-/// Returns the leaf with these bytes, or else the leaf before the place where they would go, in a
+/// Returns the leaf with these bytes, or else the leaf before the gap where they would go, in a
 /// tree with some pairs.
-fn place_below<K: AsBytes, V, const P: usize>(
+fn gap_below<K: AsBytes, V, const P: usize>(
     leaves: &Leaves<K, V>,
     nodes: &Nodes<P>,
     root: &Child,
@@ -147,7 +147,7 @@ fn place_below<K: AsBytes, V, const P: usize>(
     visits: &mut Visits,
 ) -> Result<LeafId, Option<LeafId>>
     requires { IsSound K.bytes P leaves.now nodes.now (Some root.now) }
-    ensures stands { IsPlaceOf (keys_in K.bytes leaves.now.pairs) query.now result }
+    ensures stands { IsGapOf (keys_in K.bytes leaves.now.pairs) query.now result }
     ensures counted { visits.new.count
         ≤ visits.old.count + (length query.now + 2)
         * (longest (bytes K.bytes) leaves.now.pairs + 1) }
@@ -164,18 +164,18 @@ fn place_below<K: AsBytes, V, const P: usize>(
         }
         Stop::AtNode(id, depth) => {
             let (edge, is_after) = edge_beside(nodes, &id, query[depth], visits);
-            Err(leaf_before_place(leaves, nodes, &edge.to, is_after, visits))
+            Err(leaf_before_gap(leaves, nodes, &edge.to, is_after, visits))
         }
         Stop::AtEdge(child, depth, byte) => {
             let is_after = byte < query[depth];
-            Err(leaf_before_place(leaves, nodes, &child, is_after, visits))
+            Err(leaf_before_gap(leaves, nodes, &child, is_after, visits))
         }
     }
 }
 
-/// Returns the leaf before a place, if there is one. The place is after the keys below this child
+/// Returns the leaf before a gap, if there is one. The gap is after the keys below this child
 /// if `is_after` is set, or else before them.
-fn leaf_before_place<K: AsBytes, V, const P: usize>(
+fn leaf_before_gap<K: AsBytes, V, const P: usize>(
     leaves: &Leaves<K, V>,
     nodes: &Nodes<P>,
     child: &Child,
@@ -185,9 +185,9 @@ fn leaf_before_place<K: AsBytes, V, const P: usize>(
     requires content { IsContent (bytes K.bytes) leaves.now.pairs }
     requires beside { (q : Bytes)
         × IsChildBeside P (keys_in K.bytes leaves.now.pairs) (at nodes.now) q child.now is_after }
-    ensures place { (q : Bytes)
+    ensures gap { (q : Bytes)
         → IsChildBeside P (keys_in K.bytes leaves.now.pairs) (at nodes.now) q child.now is_after
-        → IsPlaceOf (keys_in K.bytes leaves.now.pairs) q (Err result) }
+        → IsGapOf (keys_in K.bytes leaves.now.pairs) q (Err result) }
     ensures counted { visits.new.count
         ≤ visits.old.count + longest (bytes K.bytes) leaves.now.pairs }
     ensures grows { visits.old.count ≤ visits.new.count }
@@ -201,20 +201,20 @@ fn leaf_before_place<K: AsBytes, V, const P: usize>(
     }
 }
 
-/// Returns the branch of the keys with a prefix, in a tree with some pairs, or `None` if no key has
+/// Returns the subtree of the keys with a prefix, in a tree with some pairs, or `None` if no key has
 /// the prefix.
-pub(crate) fn branch_below<K: AsBytes, V, const P: usize>(
+pub(crate) fn subtree_below<K: AsBytes, V, const P: usize>(
     leaves: &Leaves<K, V>,
     nodes: &Nodes<P>,
     root: &Child,
     front: &[u8],
     visits: &mut Visits,
-) -> Option<Branch>
+) -> Option<Subtree>
     requires { IsSound K.bytes P leaves.now nodes.now (Some root.now) }
     ensures found { option_map (λ b. (b.first, b.last)) result
         ≡ ends (under (bytes K.bytes) leaves.now.pairs front.now) }
-    ensures branch { (s : Shape P (keys_in K.bytes leaves.now.pairs) (at nodes.now) (Some root.now))
-        → IfSome result (IsBranch (keys_in K.bytes leaves.now.pairs) (at nodes.now)
+    ensures subtree { (s : Shape P (keys_in K.bytes leaves.now.pairs) (at nodes.now) (Some root.now))
+        → IfSome result (IsSubtreeWith (keys_in K.bytes leaves.now.pairs) (at nodes.now)
         (Some root.now) s.front_of front.now) }
     ensures counted { visits.new.count
         + 2 ≤ visits.old.count + (length front.now + 3)
@@ -226,7 +226,7 @@ pub(crate) fn branch_below<K: AsBytes, V, const P: usize>(
     let child = stop.top()?;
     let first = end_under(nodes, &child, End::First, visits);
     let last = end_under(nodes, &child, End::Last, visits);
-    Some(Branch {
+    Some(Subtree {
         above,
         child,
         first,

@@ -21,10 +21,10 @@ prev_of-requires g c = has_row_at (seen c.self.inside c.self.view_is c.self.inva
 pub read-requires : goal.read-requires
 read-requires g c = Has-before c.self.inside.rows.pairs c.args.position.row c.in-Some.row (sym c.prev_of.ensures ∙ c.in-Some.is)
 
-pub overflow_sub-place : goal.overflow_sub-place
-overflow_sub-place g c =
+pub overflow_sub-index : goal.overflow_sub-index
+overflow_sub-index g c =
     let w = row_filled (seen c.self.inside c.self.view_is c.self.invariant) c.in-Some.row _ c.read.ensures in
-    omega (arith, w, c.len-place.ensures.len)
+    omega (arith, w, c.len-index.ensures.len)
 
 pub returns-in-None-clause-before : goal.returns-in-None-clause-before
 returns-in-None-clause-before g c k e =
@@ -36,7 +36,7 @@ pub returns-in-Some-clause-before : goal.returns-in-Some-clause-before
 returns-in-Some-clause-before g c k e =
     let f = seen c.self.inside c.self.view_is c.self.invariant in
     let m : k + 1 - 1 ≡ k = omega arith in
-    rw (← c.self.view_is, ← m, c.len-place.ensures.len) (sym (backward_end f (k + 1) c.args.position (rw (← c.self.view_is) at e) c.if-position-gt0.false c.in-Some.row (sym c.prev_of.ensures ∙ c.in-Some.is) _ c.read.ensures))
+    rw (← c.self.view_is, ← m, c.len-index.ensures.len) (sym (backward_end f (k + 1) c.args.position (rw (← c.self.view_is) at e) c.if-position-gt0.false c.in-Some.row (sym c.prev_of.ensures ∙ c.in-Some.is) _ c.read.ensures))
 
 pub returns-in-Some-clause-first : goal.returns-in-Some-clause-first
 returns-in-Some-clause-first g c e =

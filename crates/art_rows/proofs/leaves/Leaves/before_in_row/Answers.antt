@@ -9,5 +9,5 @@ returns-clause-before g c =
     let p = c.args.seen in
     let ids = c.in_ok-row.row in
     let there : leaf_in c.self.inside.rows.pairs p.row ≡ Some ids = sym c.get.ensures ∙ c.in_ok-row.was in
-    if_some c.before-2.result (λ n. (0 < p.place) × (nth ids p.place ≡ Some c.args.id) × (nth ids (p.place - 1) ≡ Some n)) (λ n. number_before c.args.self.now.pairs c.args.id ≡ Some n)
+    if_some c.before-2.result (λ n. (0 < p.index) × (nth ids p.index ≡ Some c.args.id) × (nth ids (p.index - 1) ≡ Some n)) (λ n. number_before c.args.self.now.pairs c.args.id ≡ Some n)
     (λ n h. before_there (seen c.self.inside c.self.view_is c.self.invariant) c.args.id n c.requires p ids there h.0 h.1 h.2) (c.before-2.ensures.some)

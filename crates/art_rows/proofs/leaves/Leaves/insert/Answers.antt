@@ -37,19 +37,19 @@ begin-requires-then-position-eq0-clause-spare_rows g c =
     let f = seen_rows c.self.inside c.self.view_is c.self.invariant in
     let s = c.in-Some.ensures.some in
     let full = full_row s f.apart c.row_len.result c.row_len.ensures.len c.row_len.ensures.fits c.if-row_len-lt-ROW.false in
-    let front = in_front c.args.prev c.args.self.now.pairs c.in-Some.position.place c.in-Some.ensures.later c.if-position-eq0.true in
+    let front = in_front c.args.prev c.args.self.now.pairs c.in-Some.position.index c.in-Some.ensures.later c.if-position-eq0.true in
     let starts = spot_front s f.apart front f.filled full in
     room_spare (lengths c.args.self.now.rows) c.args.self.now.spare_rows (load_starts (lengths c.args.self.now.rows) starts) c.requires.room
 
 pub begin-requires-then-position-eq0-clause-index : goal.begin-requires-then-position-eq0-clause-index
-begin-requires-then-position-eq0-clause-index g c = in_front c.args.prev c.args.self.now.pairs c.in-Some.position.place c.in-Some.ensures.later c.if-position-eq0.true
+begin-requires-then-position-eq0-clause-index g c = in_front c.args.prev c.args.self.now.pairs c.in-Some.position.index c.in-Some.ensures.later c.if-position-eq0.true
 
 pub returns-then-position-eq0-clause-room : goal.returns-then-position-eq0-clause-room
 returns-then-position-eq0-clause-room g c =
     let f = seen_rows c.self.inside c.self.view_is c.self.invariant in
     let s = c.in-Some.ensures.some in
     let full = full_row s f.apart c.row_len.result c.row_len.ensures.len c.row_len.ensures.fits c.if-row_len-lt-ROW.false in
-    let front = in_front c.args.prev c.args.self.now.pairs c.in-Some.position.place c.in-Some.ensures.later c.if-position-eq0.true in
+    let front = in_front c.args.prev c.args.self.now.pairs c.in-Some.position.index c.in-Some.ensures.later c.if-position-eq0.true in
     let starts = spot_front s f.apart front f.filled full in
     let b = c.begin-then-position-eq0 in
     let o = c.args.self.now in

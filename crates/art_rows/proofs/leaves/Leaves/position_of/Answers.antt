@@ -17,12 +17,12 @@ pub returns-then-has_at : goal.returns-then-has_at
 returns-then-has_at g c =
     rw (← ap (λ t. t.rows) c.self.view_is) (stands_there (seen c.self.inside c.self.view_is c.self.invariant) c.args.id _ _ c.read-ids.ensures (c.has_at.ensures.here c.if-has_at.true))
 
-pub place_of-place-requires : goal.place_of-place-requires
-place_of-place-requires g c =
+pub index_of-index-requires : goal.index_of-index-requires
+index_of-index-requires g c =
     let f = seen c.self.inside c.self.view_is c.self.invariant in
     in_own_row f c.args.id c.requires _ (rw c.row_of-row.ensures at c.read-ids.ensures)
 
 pub returns : goal.returns
 returns g c =
     let f = seen c.self.inside c.self.view_is c.self.invariant in
-    rw (← ap (λ t. t.rows) c.self.view_is, c.place_of-place.ensures, c.row_of-row.ensures) (located f c.args.id c.requires _ (rw c.row_of-row.ensures at c.read-ids.ensures))
+    rw (← ap (λ t. t.rows) c.self.view_is, c.index_of-index.ensures, c.row_of-row.ensures) (located f c.args.id c.requires _ (rw c.row_of-row.ensures at c.read-ids.ensures))

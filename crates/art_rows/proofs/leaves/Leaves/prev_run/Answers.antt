@@ -1,6 +1,6 @@
 use Rattle.std.proofs.Common.{sym, ap, subst, ◌∙◌, None}
 use Rattle.art_rows.specs.Rows.{position_at, RunsBefore}
-use Rattle.art_rows.proofs.FilingLemmas.{seen, seen_rows, none_before, has_row_at, place_at, number_there}
+use Rattle.art_rows.proofs.FilingLemmas.{seen, seen_rows, none_before, has_row_at, index_at, number_there}
 use Rattle.art_rows.proofs.RowsLemmas.{number_before-nth, before_some}
 use Rattle.art_rows.proofs.Runs.{before_in_row, none_before_run}
 use Rattle.art_rows.proofs.leaves.Leaves.prev_run.Goals as goal
@@ -19,13 +19,13 @@ pub at-prev-requires : goal.at-prev-requires
 at-prev-requires g c =
     let b = before_some c.args.self.now.rows c.backward.ensures.before c.backward.ensures.first c.position_of.ensures c.in-Some.is in
     let at = ap (λ s. position_at s.rows b.0) c.self.view_is ∙ b.2 in
-    (place_at (seen c.self.inside c.self.view_is c.self.invariant) b.0 c.in-Some.position at _ c.read-ids.ensures)
+    (index_at (seen c.self.inside c.self.view_is c.self.invariant) b.0 c.in-Some.position at _ c.read-ids.ensures)
 
 pub run_before-requires : goal.run_before-requires
 run_before-requires g c =
     let b = before_some c.args.self.now.rows c.backward.ensures.before c.backward.ensures.first c.position_of.ensures c.in-Some.is in
     let at = ap (λ s. position_at s.rows b.0) c.self.view_is ∙ b.2 in
-    (place_at (seen c.self.inside c.self.view_is c.self.invariant) b.0 c.in-Some.position at _ c.read-ids.ensures)
+    (index_at (seen c.self.inside c.self.view_is c.self.invariant) b.0 c.in-Some.position at _ c.read-ids.ensures)
 
 pub returns-in-None-clause-prev : goal.returns-in-None-clause-prev
 returns-in-None-clause-prev g c =

@@ -6,7 +6,7 @@ use Rattle.art_rows.proofs.FilingLemmas.{seen_rows}
 use Rattle.art_rows.proofs.RowsLemmas.{last_number-nth}
 use Rattle.art_rows.proofs.RowChanges.{spot_after}
 use Rattle.art_rows.proofs.Rooms.{last_row, last_room, last_put, last_begun}
-use Rattle.art_rows.proofs.Ends.{last_has, last_place}
+use Rattle.art_rows.proofs.Ends.{last_has, last_index}
 use Rattle.art_rows.proofs.Crowds.{nothing_there, at_last, last_leaf_end}
 use Rattle.art_rows.proofs.leaves.Leaves.push.Goals as goal
 
@@ -45,7 +45,7 @@ put-requires-clause-spot g c =
     let l = c.args.self.now in
     let f = seen_rows c.self.inside c.self.view_is c.self.invariant in
     let at = sym c.last_position.ensures ∙ c.in-Some.is in
-    rw (last_place l.pairs c.number-last.result f.distinct (c.number-last.ensures _ at)) (spot_after l.rows (length l.pairs - 1) c.in-Some.position at)
+    rw (last_index l.pairs c.number-last.result f.distinct (c.number-last.ensures _ at)) (spot_after l.rows (length l.pairs - 1) c.in-Some.position at)
 
 pub put-requires-clause-room : goal.put-requires-clause-room
 put-requires-clause-room g c =
@@ -65,8 +65,8 @@ returns-then-position-clause-room g c =
     let f = seen_rows c.self.inside c.self.view_is c.self.invariant in
     let p = c.in-Some.position in
     let s = at_last f p (sym c.last_position.ensures ∙ c.in-Some.is) in
-    let was : row_end_room (lengths l.rows) ≡ 64 - (p.place + 1) = last_room s f.apart in
-    let is : row_end_room (lengths n.rows) ≡ 64 - (p.place + 2) = last_put s f.apart n.rows c.put.result c.put.ensures.rows in
+    let was : row_end_room (lengths l.rows) ≡ 64 - (p.index + 1) = last_room s f.apart in
+    let is : row_end_room (lengths n.rows) ≡ 64 - (p.index + 2) = last_put s f.apart n.rows c.put.result c.put.ensures.rows in
     let e = c.put.ensures.spare_rows in
     let w = c.if-position.true in
     omega arith
@@ -78,7 +78,7 @@ begin-requires-2-clause-spare_rows g c =
     let l = c.args.self.now in
     let f = seen_rows c.self.inside c.self.view_is c.self.invariant in
     let p = c.in-Some.position in
-    let was : row_end_room (lengths l.rows) ≡ 64 - (p.place + 1) = last_room (at_last f p (sym c.last_position.ensures ∙ c.in-Some.is)) f.apart in
+    let was : row_end_room (lengths l.rows) ≡ 64 - (p.index + 1) = last_room (at_last f p (sym c.last_position.ensures ∙ c.in-Some.is)) f.apart in
     let w = c.if-position.false in
     let h : 0 < 64 * l.spare_rows + row_end_room (lengths l.rows) = c.requires.room in
     omega arith
@@ -108,7 +108,7 @@ returns-clause-room g c =
     let f = seen_rows c.self.inside c.self.view_is c.self.invariant in
     let p = c.in-Some.position in
     let s = at_last f p (sym c.last_position.ensures ∙ c.in-Some.is) in
-    let was : row_end_room (lengths l.rows) ≡ 64 - (p.place + 1) = last_room s f.apart in
+    let was : row_end_room (lengths l.rows) ≡ 64 - (p.index + 1) = last_room s f.apart in
     let is : row_end_room (lengths n.rows) ≡ 63 = last_begun s f.apart n.rows _ c.begin-2.result c.begin-2.ensures.rows.2 in
     let e = c.begin-2.ensures.spare_rows in
     let w = c.if-position.false in

@@ -13,8 +13,8 @@ insert-id-requires-clause-has g c =
 pub insert-id-requires-clause-room : goal.insert-id-requires-clause-room
 insert-id-requires-clause-room g c = rw (← ap (λ t. t.rows) c.self.view_is) at c.requires.room
 
-pub insert-id-requires-clause-place : goal.insert-id-requires-clause-place
-insert-id-requires-clause-place g c =
+pub insert-id-requires-clause-index : goal.insert-id-requires-clause-index
+insert-id-requires-clause-index g c =
     let s = rw (← ap (λ t. t.rows) c.self.view_is) at c.requires.spot in
     rw (spot-row c.self.inside.rows.pairs _ c.args.position s (seen c.self.inside c.self.view_is c.self.invariant).apart) s.within
 

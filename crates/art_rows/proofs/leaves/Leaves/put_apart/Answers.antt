@@ -22,7 +22,7 @@ pub put-requires-clause-spot : goal.put-requires-clause-spot
 put-requires-clause-spot g c =
     let f = seen_rows c.self.inside c.self.view_is c.self.invariant in
     let x = cut_at c.requires.spot f.apart c.requires.full c.cut-new.result c.cut-new.new.self.rows c.cut-new.ensures.rows in
-    rw c.cut-new.ensures.pairs (cut_below x _ c.args.position.place c.requires.spot.index c.if-position-le-HALF.true)
+    rw c.cut-new.ensures.pairs (cut_below x _ c.args.position.index c.requires.spot.index c.if-position-le-HALF.true)
 
 pub put-requires-clause-room : goal.put-requires-clause-room
 put-requires-clause-room g c =
@@ -39,7 +39,7 @@ returns-then-position-le-HALF-clause-room g c =
     let n = c.put.new.self in
     let q = c.cut-new.ensures.spare in
     let e = c.put.ensures.spare_rows in
-    let i = cut_below x _ c.args.position.place c.requires.spot.index c.if-position-le-HALF.true in
+    let i = cut_below x _ c.args.position.index c.requires.spot.index c.if-position-le-HALF.true in
     let u = cut_put x i (cut_apart x c.cut-new.ensures.unused f.apart) n.rows c.put.result o.spare_rows c.cut-new.new.self.spare_rows q c.put.ensures.rows in
     room_less (lengths o.rows) (lengths n.rows) o.spare_rows n.spare_rows (omega arith) (rw e u)
 
@@ -48,7 +48,7 @@ put-requires-2-clause-spot g c =
     let f = seen_rows c.self.inside c.self.view_is c.self.invariant in
     let x = cut_at c.requires.spot f.apart c.requires.full c.cut-new.result c.cut-new.new.self.rows c.cut-new.ensures.rows in
     let s = c.requires.spot in
-    rw c.cut-new.ensures.pairs (cut_above x _ c.args.position.place s.index (omega (arith, c.if-position-le-HALF.false)) s.within)
+    rw c.cut-new.ensures.pairs (cut_above x _ c.args.position.index s.index (omega (arith, c.if-position-le-HALF.false)) s.within)
 
 pub put-requires-2-clause-room : goal.put-requires-2-clause-room
 put-requires-2-clause-room g c =
@@ -66,6 +66,6 @@ returns-clause-room g c =
     let n = c.put-2.new.self in
     let q = c.cut-new.ensures.spare in
     let e = c.put-2.ensures.spare_rows in
-    let i = cut_above x _ c.args.position.place s.index (omega (arith, c.if-position-le-HALF.false)) s.within in
+    let i = cut_above x _ c.args.position.index s.index (omega (arith, c.if-position-le-HALF.false)) s.within in
     let u = cut_put x i (cut_apart x c.cut-new.ensures.unused f.apart) n.rows c.put-2.result o.spare_rows c.cut-new.new.self.spare_rows q c.put-2.ensures.rows in
     room_less (lengths o.rows) (lengths n.rows) o.spare_rows n.spare_rows (omega arith) (rw e u)

@@ -1,7 +1,7 @@
 use Rattle.std.proofs.Common.{◌≡◌, ◌∷◌, map, Some, sym, ap, ◌∙◌, arith}
 use Rattle.art_rows.specs.Rows.{position_at, nth}
 use Rattle.art_rows.proofs.FilingLemmas.{seen, none_there}
-use Rattle.art_rows.proofs.Ends.{first_none, first_has, first_place, first_taken}
+use Rattle.art_rows.proofs.Ends.{first_none, first_has, first_index, first_taken}
 use Rattle.art_rows.proofs.leaves.Leaves.take_first.Goals as goal
 
 pub returns-in_default : goal.returns-in_default
@@ -19,7 +19,7 @@ remove_at-requires-clause-at g c =
     let ps = c.args.self.now.pairs in
     let f = seen c.self.inside c.self.view_is c.self.invariant in
     let at : position_at c.args.self.now.rows (0) ≡ Some c.in-Some.position = sym c.first_position.ensures ∙ c.in-Some.is in
-    ap (position_at c.args.self.now.rows) (first_place ps c.number-id.result (c.number-id.ensures (0) at)) ∙ at
+    ap (position_at c.args.self.now.rows) (first_index ps c.number-id.result (c.number-id.ensures (0) at)) ∙ at
 
 pub returns : goal.returns
 returns g c =

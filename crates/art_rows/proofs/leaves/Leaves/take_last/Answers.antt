@@ -1,7 +1,7 @@
 use Rattle.std.proofs.Common.{◌≡◌, ◌-◌, ◌∷◌, ◌++◌, [], length, map, Some, sym, ap, ◌∙◌, arith}
 use Rattle.art_rows.specs.Rows.{position_at, nth}
 use Rattle.art_rows.proofs.FilingLemmas.{seen, none_there}
-use Rattle.art_rows.proofs.Ends.{last_none, last_has, last_place, last_taken}
+use Rattle.art_rows.proofs.Ends.{last_none, last_has, last_index, last_taken}
 use Rattle.art_rows.proofs.leaves.Leaves.take_last.Goals as goal
 
 pub returns-in_default : goal.returns-in_default
@@ -19,7 +19,7 @@ remove_at-requires-clause-at g c =
     let ps = c.args.self.now.pairs in
     let f = seen c.self.inside c.self.view_is c.self.invariant in
     let at : position_at c.args.self.now.rows (length ps - 1) ≡ Some c.in-Some.position = sym c.last_position.ensures ∙ c.in-Some.is in
-    ap (position_at c.args.self.now.rows) (last_place ps c.number-id.result f.distinct (c.number-id.ensures (length ps - 1) at)) ∙ at
+    ap (position_at c.args.self.now.rows) (last_index ps c.number-id.result f.distinct (c.number-id.ensures (length ps - 1) at)) ∙ at
 
 pub returns : goal.returns
 returns g c =

@@ -6,8 +6,8 @@ use Rattle.art_rows.proofs.row.Row.has_at.Goals as goal
 pub at-requires : goal.at-requires
 at-requires c = omega (arith, row_len c.self.invariant c.self.view_is)
 
-pub returns-else-place-self-clause-there : goal.returns-else-place-self-clause-there
-returns-else-place-self-clause-there c e =
+pub returns-else-index-self-clause-there : goal.returns-else-index-self-clause-there
+returns-else-index-self-clause-there c e =
     let l = row_len c.self.invariant c.self.view_is in
-    let w = nth-within c.args.self.now c.args.place c.args.number e in
+    let w = nth-within c.args.self.now c.args.index c.args.number e in
     absurd (omega arith)

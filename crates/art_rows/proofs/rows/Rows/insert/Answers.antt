@@ -24,7 +24,7 @@ new-cell-requires c =
 pub move_down-requires-clause-order : goal.move_down-requires-clause-order
 move_down-requires-clause-order c =
     let n = c.read-count.result.now in
-    let m = from_now c.self.invariant c.self.view_is c.args.row n c.read-count.ensures (λ ids. c.args.place ≤ length ids) c.requires.place in
+    let m = from_now c.self.invariant c.self.view_is c.args.row n c.read-count.ensures (λ ids. c.args.index ≤ length ids) c.requires.index in
     omega (arith, row_length c.self.invariant c.self.view_is c.args.row n c.read-count.ensures)
 
 pub move_down-requires-clause-within : goal.move_down-requires-clause-within
@@ -45,10 +45,10 @@ pub returns-clause-rows : goal.returns-clause-rows
 returns-clause-rows c =
     let n = c.read-count.result.now in
     let m = from_now c.self.invariant c.self.view_is c.args.row n c.read-count.ensures (λ ids. length ids < 64) c.requires.room in
-    let p = from_now c.self.invariant c.self.view_is c.args.row n c.read-count.ensures (λ ids. c.args.place ≤ length ids) c.requires.place in
+    let p = from_now c.self.invariant c.self.view_is c.args.row n c.read-count.ensures (λ ids. c.args.index ≤ length ids) c.requires.index in
     let l = row_length c.self.invariant c.self.view_is c.args.row n c.read-count.ensures in
     to_now c.self.invariant c.self.view_is c.args.row n c.read-count.ensures _
-    (insert_now c.self.invariant c.self.view_is c.args.row n c.read-count.ensures c.move_down.new.self c.args.place c.new-cell.result (omega arith) (omega arith) (c.new-cell.ensures ∙ c.read.ensures) c.move_down.ensures.moved c.move_down.ensures.others)
+    (insert_now c.self.invariant c.self.view_is c.args.row n c.read-count.ensures c.move_down.new.self c.args.index c.new-cell.result (omega arith) (omega arith) (c.new-cell.ensures ∙ c.read.ensures) c.move_down.ensures.moved c.move_down.ensures.others)
 
 pub returns-clause-fresh : goal.returns-clause-fresh
 returns-clause-fresh c =

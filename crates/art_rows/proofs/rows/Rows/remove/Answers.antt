@@ -12,19 +12,19 @@ invariant_of-self c = owned_removed c.self.invariant c.self.inside.cells c.self.
 pub overflow_sub-count : goal.overflow_sub-count
 overflow_sub-count c =
     let n = c.read-count.result.now in
-    let p = from_now c.self.invariant c.self.view_is c.args.row n c.read-count.ensures (λ ids. c.args.place < length ids) c.requires.within in
+    let p = from_now c.self.invariant c.self.view_is c.args.row n c.read-count.ensures (λ ids. c.args.index < length ids) c.requires.within in
     omega (arith, row_length c.self.invariant c.self.view_is c.args.row n c.read-count.ensures)
 
 pub move_up-requires-clause-order : goal.move_up-requires-clause-order
 move_up-requires-clause-order c =
     let n = c.read-count.result.now in
-    let p = from_now c.self.invariant c.self.view_is c.args.row n c.read-count.ensures (λ ids. c.args.place < length ids) c.requires.within in
+    let p = from_now c.self.invariant c.self.view_is c.args.row n c.read-count.ensures (λ ids. c.args.index < length ids) c.requires.within in
     omega (arith, row_length c.self.invariant c.self.view_is c.args.row n c.read-count.ensures)
 
 pub overflow_sub-count-else-count-eq1 : goal.overflow_sub-count-else-count-eq1
 overflow_sub-count-else-count-eq1 c =
     let n = c.read-count.result.now in
-    let p = from_now c.self.invariant c.self.view_is c.args.row n c.read-count.ensures (λ ids. c.args.place < length ids) c.requires.within in
+    let p = from_now c.self.invariant c.self.view_is c.args.row n c.read-count.ensures (λ ids. c.args.index < length ids) c.requires.within in
     omega (arith, row_length c.self.invariant c.self.view_is c.args.row n c.read-count.ensures)
 
 pub invariant_of-self-else-count-eq1 : goal.invariant_of-self-else-count-eq1
@@ -52,9 +52,9 @@ returns-else-count-eq1-clause-one c =
 pub returns-else-count-eq1-clause-more : goal.returns-else-count-eq1-clause-more
 returns-else-count-eq1-clause-more c =
     let n = c.read-count.result.now in
-    let p = from_now c.self.invariant c.self.view_is c.args.row n c.read-count.ensures (λ ids. c.args.place < length ids) c.requires.within in
+    let p = from_now c.self.invariant c.self.view_is c.args.row n c.read-count.ensures (λ ids. c.args.index < length ids) c.requires.within in
     let l = row_length c.self.invariant c.self.view_is c.args.row n c.read-count.ensures in
-    to_now c.self.invariant c.self.view_is c.args.row n c.read-count.ensures _ (λ ne. remove_now c.self.invariant c.self.view_is c.args.row n c.read-count.ensures c.move_up.new.self c.args.place (omega arith) c.move_up.ensures.moved c.move_up.ensures.others)
+    to_now c.self.invariant c.self.view_is c.args.row n c.read-count.ensures _ (λ ne. remove_now c.self.invariant c.self.view_is c.args.row n c.read-count.ensures c.move_up.new.self c.args.index (omega arith) c.move_up.ensures.moved c.move_up.ensures.others)
 
 pub returns-else-count-eq1-clause-gains : goal.returns-else-count-eq1-clause-gains
 returns-else-count-eq1-clause-gains c =

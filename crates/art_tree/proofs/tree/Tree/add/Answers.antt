@@ -42,12 +42,12 @@ returns-in-None-clause-added g c =
     let alone : (y : Numbered g.row.K.Denot g.row.V.Denot) → Member y i.leaves.pairs → related (bytes kb y) (kb x.0) ≡ false = λ y m. absurd (subst (Member y) none m) in
     subst (λ (t : Content g.row.K.Denot g.row.V.Denot). Adds kb t (content_of new.leaves new.skeleton.nodes) x (Ok Placed)) c.self.view_is (adds_placed kb x i.leaves new.leaves i.skeleton.nodes new.skeleton.nodes _ alone c.in_ok-add_first-in-None.ensures.placed)
 
--- ---- a free place
+-- ---- a gap
 
 pub add_beside-requires : goal.add_beside-requires
 add_beside-requires g c =
     let i = c.self.inside in
-    let p = c.in-Free.place in
+    let p = c.in-Free.gap in
     let fork = subst (λ (r : Option Child). IsShownIn g.row.PREFIX_LEN (keys_in g.K.AsBytes.bytes i.leaves.pairs) (at i.skeleton.nodes) r p.nearest p.depth p.fork) (sym c.in-Some.is) c.in-Free.ensures.fork in
     (lit< tt, (c.self.invariant, (rw c.as_bytes.ensures at c.in-Free.ensures.good, fork)))
 
@@ -64,7 +64,7 @@ returns-in_err-add_beside-in-Free-clause-added g c =
     let x : g.row.K.Denot × g.row.V.Denot = (c.args.key, c.args.value) in
     let new = content_of c.add_beside.new.leaves c.add_beside.new.skeleton.nodes in
     let free = rw c.as_bytes.ensures at c.in-Free.ensures.good in
-    let alone = free_alone kb i.leaves.pairs c.self.invariant.content c.law.ensures.distinct (kb x.0) c.in-Free.place free in
+    let alone = free_alone kb i.leaves.pairs c.self.invariant.content c.law.ensures.distinct (kb x.0) c.in-Free.gap free in
     subst (λ (t : Content g.row.K.Denot g.row.V.Denot). Adds kb t new x c.from_residual-in_err-add_beside-in-Free.result) c.self.view_is (adds_refused kb x (content_of i.leaves i.skeleton.nodes) new c.from_residual-in_err-add_beside-in-Free.result c.from_residual-in_err-add_beside-in-Free.ensures.0 alone c.in_err-add_beside-in-Free.ensures.pairs)
 
 pub returns-in_ok-add_beside-in-Free-clause-added : goal.returns-in_ok-add_beside-in-Free-clause-added
@@ -74,7 +74,7 @@ returns-in_ok-add_beside-in-Free-clause-added g c =
     let x : g.row.K.Denot × g.row.V.Denot = (c.args.key, c.args.value) in
     let new = c.add_beside.new in
     let free = rw c.as_bytes.ensures at c.in-Free.ensures.good in
-    let alone = free_alone kb i.leaves.pairs c.self.invariant.content c.law.ensures.distinct (kb x.0) c.in-Free.place free in
+    let alone = free_alone kb i.leaves.pairs c.self.invariant.content c.law.ensures.distinct (kb x.0) c.in-Free.gap free in
     subst (λ (t : Content g.row.K.Denot g.row.V.Denot). Adds kb t (content_of new.leaves new.skeleton.nodes) x (Ok Placed)) c.self.view_is (adds_placed kb x i.leaves new.leaves i.skeleton.nodes new.skeleton.nodes _ alone c.in_ok-add_beside-in-Free.ensures.placed)
 
 -- ---- related keys

@@ -10,7 +10,7 @@ overflow_sub-result g c =
     let kb = g.K.AsBytes.bytes in
     let q = c.args.prefix.now in
     let old = c.args.self.now.pairs in
-    let l = ap (λ (S : List _). length S) c.remove_branch.ensures in
+    let l = ap (λ (S : List _). length S) c.remove_subtree.ensures in
     omega (arith, l, length_outside (bytes kb) old q, c.len.ensures, c.len-before.ensures)
 
 pub returns-clause-count : goal.returns-clause-count
@@ -18,8 +18,8 @@ returns-clause-count g c =
     let kb = g.K.AsBytes.bytes in
     let q = c.args.prefix.now in
     let old = c.args.self.now.pairs in
-    let l = ap (λ (S : List _). length S) c.remove_branch.ensures in
+    let l = ap (λ (S : List _). length S) c.remove_subtree.ensures in
     omega (arith, l, length_outside (bytes kb) old q, c.len.ensures, c.len-before.ensures)
 
 pub returns-clause-others : goal.returns-clause-others
-returns-clause-others g c = rw c.remove_branch.ensures (stood_filter (λ (x : Numbered _ _). not (begins c.args.prefix.now (g.K.AsBytes.bytes x.1.0))) c.args.self.now.pairs c.law.ensures.distinct)
+returns-clause-others g c = rw c.remove_subtree.ensures (stood_filter (λ (x : Numbered _ _). not (begins c.args.prefix.now (g.K.AsBytes.bytes x.1.0))) c.args.self.now.pairs c.law.ensures.distinct)

@@ -29,22 +29,22 @@ returns-in-Some-Node-clause-shape g c =
 -- ---- at another fork
 
 pub read-requires-2 : goal.read-requires-2
-read-requires-2 g c = has_key g.K.AsBytes.bytes c.args.leaves.now.pairs c.args.place.now.nearest c.requires.joins.leaves.nearest_key (has_nearest c.requires.joins)
+read-requires-2 g c = has_key g.K.AsBytes.bytes c.args.leaves.now.pairs c.args.gap.now.nearest c.requires.joins.leaves.nearest_key (has_nearest c.requires.joins)
 
 pub fork_for-fork-requires : goal.fork_for-fork-requires
 fork_for-fork-requires g c =
     let ps = c.args.leaves.now.pairs in
     let own = key_read g.K.AsBytes.bytes ps c.args.id c.read.ensures.value c.as_bytes.ensures in
-    let near = key_read g.K.AsBytes.bytes ps c.args.place.now.nearest c.read-2.ensures.value c.as_bytes-nearest.ensures in
-    (lit< tt, to_nearest c.args.place.now c.requires.joins own near)
+    let near = key_read g.K.AsBytes.bytes ps c.args.gap.now.nearest c.read-2.ensures.value c.as_bytes-nearest.ensures in
+    (lit< tt, to_nearest c.args.gap.now c.requires.joins own near)
 
 pub add_leaf-requires : goal.add_leaf-requires
 add_leaf-requires g c =
     let ps = c.args.leaves.now.pairs in
     let r = c.requires.joins in
     let own = key_read g.K.AsBytes.bytes ps c.args.id c.read.ensures.value c.as_bytes.ensures in
-    let near = key_read g.K.AsBytes.bytes ps c.args.place.now.nearest c.read-2.ensures.value c.as_bytes-nearest.ensures in
-    let fits = c.fork_for-fork.ensures (to_nearest c.args.place.now r own near) in
+    let near = key_read g.K.AsBytes.bytes ps c.args.gap.now.nearest c.read-2.ensures.value c.as_bytes-nearest.ensures in
+    let fits = c.fork_for-fork.ensures (to_nearest c.args.gap.now r own near) in
     (lit< tt, (new_fork r own near c.fork_for-fork.result fits, c.requires.room))
 
 pub returns-clause-shape : goal.returns-clause-shape
@@ -52,6 +52,6 @@ returns-clause-shape g c =
     let ps = c.args.leaves.now.pairs in
     let r = c.requires.joins in
     let own = key_read g.K.AsBytes.bytes ps c.args.id c.read.ensures.value c.as_bytes.ensures in
-    let near = key_read g.K.AsBytes.bytes ps c.args.place.now.nearest c.read-2.ensures.value c.as_bytes-nearest.ensures in
-    let fits = c.fork_for-fork.ensures (to_nearest c.args.place.now r own near) in
+    let near = key_read g.K.AsBytes.bytes ps c.args.gap.now.nearest c.read-2.ensures.value c.as_bytes-nearest.ensures in
+    let fits = c.fork_for-fork.ensures (to_nearest c.args.gap.now r own near) in
     new_shape r own near c.fork_for-fork.result fits (at c.add_leaf.new.self.nodes) c.add_leaf.new.self.root c.add_leaf.ensures.gains

@@ -1,10 +1,10 @@
--- A place that is free for a key, and the leaves beside it.
+-- A gap for a key, and the leaves beside it.
 use Rattle.std.specs.Prelude.{◌≡◌, ℕ, List, [], ◌∷◌, ◌++◌, ◌<◌, length, take, Option, Some, None, true, false, ◌⊎◌, slice_index_or}
 use Rattle.blart_keys.specs.Bytes.{less}
 use Rattle.art_tree.specs.Begins.{Bytes, Begins}
 use Rattle.art_tree.specs.Leaves.{Numbered, number_before}
-use Rattle.art_tree.specs.declared.tree.point.Beside.{Beside}
-use Rattle.art_tree.specs.declared.tree.point.Beside.TheVariants.{AfterLeaf, BeforeLeaf}
+use Rattle.art_tree.specs.declared.tree.point.Neighbour.{Neighbour}
+use Rattle.art_tree.specs.declared.tree.point.Neighbour.TheVariants.{AfterLeaf, BeforeLeaf}
 
 -- q and the key of `nearest` share their first `depth` bytes, and no key shares one more with q
 pub record LeavesNearest (keys : ℕ → Option Bytes) (nearest depth : ℕ) (q : Bytes) : Type 0 where
@@ -34,17 +34,17 @@ abbrev pub IsLeafBefore : (ℕ → Option Bytes) → Bytes → Option ℕ → Ty
 IsLeafBefore keys q None = (j : ℕ) (k : Bytes) → keys j ≡ Some k → less k q ≡ false
 IsLeafBefore keys q (Some i) = LastBefore keys q i
 
--- the place of q is after the leaf, or before it
-abbrev pub IsBeside : (ℕ → Option Bytes) → Bytes → Beside → Type 0
+-- the gap of q is after the leaf, or before it
+abbrev pub IsBeside : (ℕ → Option Bytes) → Bytes → Neighbour → Type 0
 IsBeside keys q (AfterLeaf i) = LastBefore keys q i
 IsBeside keys q (BeforeLeaf i) = FirstAfter keys q i
 
--- the leaf beside a place
-abbrev pub neighbour : Beside → ℕ
+-- the leaf beside a gap
+abbrev pub neighbour : Neighbour → ℕ
 neighbour (AfterLeaf i) = i
 neighbour (BeforeLeaf i) = i
 
--- the leaf before a place
-abbrev pub number_before_place : {K V : Type 0} → List (Numbered K V) → Beside → Option ℕ
-number_before_place ps (AfterLeaf i) = Some i
-number_before_place ps (BeforeLeaf i) = number_before ps i
+-- the leaf before a gap
+abbrev pub number_before_gap : {K V : Type 0} → List (Numbered K V) → Neighbour → Option ℕ
+number_before_gap ps (AfterLeaf i) = Some i
+number_before_gap ps (BeforeLeaf i) = number_before ps i

@@ -1,8 +1,8 @@
 use Rattle.std.proofs.Common.{Bool, lit<, subst}
-use Rattle.art_tree.specs.Places.{IsBeside}
+use Rattle.art_tree.specs.Gaps.{IsBeside}
 use Rattle.art_tree.specs.Calls.Descents.{IsEndUnder}
 use Rattle.art_tree.specs.Calls.Stops.{beside_leaf}
-use Rattle.art_tree.proofs.tree.point.place_under.Goals as goal
+use Rattle.art_tree.proofs.tree.point.gap_under.Goals as goal
 
 pub end_under-nearest-requires : goal.end_under-nearest-requires
 end_under-nearest-requires g c =

@@ -8,13 +8,13 @@ use Rattle.blart_keys.proofs.RankLemmas.{Member, filter_member, member_filter}
 use Rattle.art_tree.specs.Begins.{Bytes, Begins}
 use Rattle.art_tree.specs.Leaves.{Numbered, leaf_in, AreDistinct, bytes, keys_in}
 use Rattle.art_tree.specs.Seeks.{ends}
-use Rattle.art_tree.specs.Calls.Pruning.{IsBranch, Prunes}
+use Rattle.art_tree.specs.Calls.Pruning.{IsSubtreeWith, Prunes}
 use Rattle.art_tree.specs.Invariant.EdgesAbove.{edge_front}
 use Rattle.art_tree.specs.Invariant.Shape.{Shape, Covers}
 use Rattle.art_kinds.specs.Nodes.{Node}
 use Rattle.art_kinds.specs.declared.records.ids.Child.{Child}
 use Rattle.art_kinds.specs.declared.records.ids.Child.TheVariants.{Leaf, Inner}
-use Rattle.art_tree.specs.declared.tree.descent.Branch.{Branch}
+use Rattle.art_tree.specs.declared.tree.descent.Subtree.{Subtree}
 use Rattle.art_tree.proofs.BeginsLemmas.{Begins-trans, Begins-from_begins, begins-from_Begins}
 use Rattle.art_tree.proofs.Invariant.Growing.{covers_above}
 use Rattle.art_tree.proofs.NumberedPairs.Bounds.{are_ends}
@@ -23,8 +23,8 @@ use Rattle.art_tree.proofs.NumberedPairs.Keys.{key_of_pair, key_of_member, membe
 use Rattle.art_tree.proofs.NumberedPairs.Outside.{first_there}
 
 -- the keys that begin with the edge's front begin with the bytes of the prefix
-pub branch_keys : {P : ℕ} → (keys : ℕ → Option Bytes) (nodes : ℕ → Option Node) (root : Option Child) (s : Shape P keys nodes root) (q : Bytes) (b : Branch) → IsBranch keys nodes root s.front_of q b → (j : ℕ) (k : Bytes) → keys j ≡ Some k → Begins (edge_front s.front_of b.above) k → Begins q k
-branch_keys keys nodes root s q b is j k e h = go b.child (covers_above keys nodes root s b.above b.child is.leads) is.covers
+pub subtree_keys : {P : ℕ} → (keys : ℕ → Option Bytes) (nodes : ℕ → Option Node) (root : Option Child) (s : Shape P keys nodes root) (q : Bytes) (b : Subtree) → IsSubtreeWith keys nodes root s.front_of q b → (j : ℕ) (k : Bytes) → keys j ≡ Some k → Begins (edge_front s.front_of b.above) k → Begins q k
+subtree_keys keys nodes root s q b is j k e h = go b.child (covers_above keys nodes root s b.above b.child is.leads) is.covers
   where
     go : (c : Child) → Covers keys nodes s.front_of (edge_front s.front_of b.above) c → Covers keys nodes s.front_of q c → Begins q k
     go (Leaf i) over under =

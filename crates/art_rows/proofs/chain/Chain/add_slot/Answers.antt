@@ -1,5 +1,5 @@
 use Rattle.art_rows.proofs.LinksLemmas.{seen, all_linked, pairs_are, store_same}
-use Rattle.art_rows.proofs.chain.Chain.add_place.Goals as goal
+use Rattle.art_rows.proofs.chain.Chain.add_slot.Goals as goal
 
 pub invariant_of-self : goal.invariant_of-self
 invariant_of-self g c =
