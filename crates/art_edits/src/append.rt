@@ -13,9 +13,9 @@ use blart_keys::NoPrefixesBytes;
 use std::alloc::{AllocError, Global};
 use std::mem::swap;
 
-/// Moves all pairs of one tree into another, once there is room. If both have the same bytes, the
-/// pair that is moved wins. The pairs of the tree that has fewer are put one by one. An error
-/// leaves both trees unchanged.
+/// Moves all pairs of one tree into another. Makes room first. If both have the same bytes, the
+/// pair of `from` is kept. The pairs of the smaller tree are inserted one by one. An error leaves
+/// both trees unchanged.
 pub fn move_into<K: NoPrefixesBytes + Drop, V: Drop, const P: usize>(
     from: &mut Tree<K, V, P>,
     to: &mut Tree<K, V, P>,

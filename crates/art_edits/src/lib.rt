@@ -1,7 +1,7 @@
 //! Insertions into a tree, of one pair or of many, and a tree cut in two.
 //!
-//! The contract of each function says what the list of the tree's pairs is then, without the ids of
-//! their leaves.
+//! Except for `place_ready` and `leave_one`, the contracts say what the list of the tree's pairs is
+//! then, without the ids of their leaves.
 #![tactic(auto)]
 
 mod append;

@@ -2,8 +2,8 @@
 //!
 //! A key type is *disjoint* if no key's bytes are a proper prefix of another key's bytes. Such keys
 //! never conflict. The calls in the last two columns take only keys of a disjoint type. The calls
-//! whose name ends in `_reserved` do not allocate, since the tree has room for the pair. The others
-//! may fail to allocate.
+//! in a column *reserved*, and `place_ready`, do not allocate, since the tree has room for the
+//! pair. The others may fail to allocate.
 //!
 //! The first column says what a call does if the bytes are stored: it *sets* the value and keeps
 //! the key, *replaces* the pair, *skips* the new pair, or *returns* the leaf and the new pair. The
@@ -74,7 +74,7 @@ pub fn place_ready<K: AsBytes + Drop, V: Drop, const P: usize>(
     id
 }
 
-/// Returns the point of a key of a disjoint type: its leaf, or the place where it would go.
+/// Returns the point of a key of a disjoint type. It is never `Related`.
 pub fn point_of_disjoint<K: NoPrefixesBytes, V, const P: usize>(
     tree: &Tree<K, V, P>,
     key: &K,
@@ -266,9 +266,8 @@ pub fn insert_disjoint<K: NoPrefixesBytes + Drop, V: Drop, const P: usize>(
 }
 
 /// Sets the value of the stored key with the same bytes and returns the old value, or adds the
-/// pair.
-/// A stored key is unchanged. Returns an error if the key conflicts or if it fails to allocate, and
-/// the pairs are then unchanged.
+/// pair. A stored key is unchanged. Returns an error if the key conflicts or if it fails to
+/// allocate, and the pairs are then unchanged.
 pub fn insert<K: AsBytes + Drop, V: Drop, const P: usize>(
     tree: &mut Tree<K, V, P>,
     key: K,

@@ -3,7 +3,7 @@ use Rattle.std.proofs.Common.{◌≡◌, ℕ, ◌+◌, ◌-◌, ◌<◌, ◌≤�
 use Rattle.std.specs.Prelude.{IfSome}
 use Rattle.art_rows.specs.Numbers.{Numbered}
 use Rattle.art_rows.specs.Rows.{position_at, nth, numbers, row_end}
-use Rattle.art_rows.specs.Leaves.{index_of, spot_index}
+use Rattle.art_rows.specs.Leaves.{count_before, spot_index}
 use Rattle.art_rows.specs.Filing.{Files}
 use Rattle.art_rows.specs.declared.leaves.Leaf.{Leaf}
 use Rattle.art_rows.specs.declared.row.Position.{Position}
@@ -16,7 +16,7 @@ pub is_full : (o : Option (List ℕ)) (n : ℕ) → IfSome o (λ ids. n ≡ leng
 is_full None n len most least = len
 is_full (Some ids) n len most least = omega arith
 
--- index 0 is after no leaf, so no pairs come before it
+-- at index 0 there is no leaf before, so no pairs come before it
 pub in_front : {X Y : Type 0} (prev : Option ℕ) (ps : List (Numbered (X × Y))) (index : ℕ) → IfSome prev (λ _. 0 < index) → index ≡ 0 → spot_index prev ps ≡ 0
 in_front None ps index later z = refl
 in_front (Some i) ps index later z = absurd (omega arith)
@@ -37,5 +37,5 @@ module _ {K V : Type 0} {leaves : ℕ → Option (Leaf K V)} {rows : List (Numbe
     at_last = is_last rows f.filled (length ps - 1) p at (ap (λ n. n - 1) (sym (how_many f)))
 
     -- the index after the last leaf is the end of that row
-    pub last_leaf_end : (i : ℕ) → nth (map (λ q. q.0) ps) (length ps - 1) ≡ Some i → index_of ps i + 1 ≡ row_end (Some p.row) rows
+    pub last_leaf_end : (i : ℕ) → nth (map (λ q. q.0) ps) (length ps - 1) ≡ Some i → count_before ps i + 1 ≡ row_end (Some p.row) rows
     last_leaf_end i is = ap (λ n. n + 1) (last_index ps i f.distinct is) ∙ last_end at_last f.apart (length ps - 1) (ap (λ n. n - 1) (sym (how_many f)))

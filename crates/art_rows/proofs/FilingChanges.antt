@@ -5,7 +5,7 @@ use Rattle.std.proofs.lemmas.Bool.Decides.{eqb_tells}
 use Rattle.std.proofs.lemmas.List.{length-set}
 use Rattle.art_rows.specs.Numbers.{Numbered, Numbers, leaf_in, Has, with_pair_after, without_number, with_pair, Lacks}
 use Rattle.art_rows.specs.Rows.{among, numbers, position_at, IsSpot, row_end}
-use Rattle.art_rows.specs.Leaves.{with_value, index_of, spot_index}
+use Rattle.art_rows.specs.Leaves.{with_value, count_before, spot_index}
 use Rattle.art_rows.specs.Filing.{filed, Files}
 use Rattle.art_slots.specs.Store.{Store, slot_at, used_count, with_record}
 use Rattle.art_rows.specs.declared.leaves.Leaf.{Leaf}
@@ -22,7 +22,7 @@ numbers-placed None x ps h = refl
 numbers-placed (Some i) x [] h = absurd (let f : false ≡ true = h in cc)
 numbers-placed {K = K} {V = V} (Some i) x (p ∷ ps) h = elim (eqb_tells p.0 i) [
   | inl t ↦ rw t.0 refl
-  | inr t ↦ rw t.0 (ap (λ l. p.0 ∷ l) (numbers-placed (Some i) x ps (Has-tail p ps i t.1 h)) ∙ step p.0 (map (λ q. q.0) ps) (index_of ps i))
+  | inr t ↦ rw t.0 (ap (λ l. p.0 ∷ l) (numbers-placed (Some i) x ps (Has-tail p ps i t.1 h)) ∙ step p.0 (map (λ q. q.0) ps) (count_before ps i))
 ]
   where
     step : (m : ℕ) (ns : List ℕ) (k : ℕ) → m ∷ (take (k + 1) ns ++ x.0 ∷ drop (k + 1) ns) ≡ take (suc k + 1) (m ∷ ns) ++ x.0 ∷ drop (suc k + 1) (m ∷ ns)
@@ -30,14 +30,14 @@ numbers-placed {K = K} {V = V} (Some i) x (p ∷ ps) h = elim (eqb_tells p.0 i) 
 
 module _ {K V : Type 0} {leaves : ℕ → Option (Leaf K V)} {rows : List (Numbered (List ℕ))} {count : ℕ} {ps : List (Numbered (K × V))} (f : Files leaves rows count ps) where
   -- if a record is removed, and its number is removed from its row, the others are filed
-  pub files_removed : (id : ℕ) → Has ps id → (new : List (Numbered (List ℕ))) → TakesOut rows new (index_of ps id) → (taken : ℕ → Option (Leaf K V)) → taken id ≡ None → ((j : ℕ) → j ≢ id → taken j ≡ leaves j) → (less : ℕ) → less + 1 ≡ count → Files taken new less (without_number ps id)
+  pub files_removed : (id : ℕ) → Has ps id → (new : List (Numbered (List ℕ))) → TakesOut rows new (count_before ps id) → (taken : ℕ → Option (Leaf K V)) → taken id ≡ None → ((j : ℕ) → j ≢ id → taken j ≡ leaves j) → (less : ℕ) → less + 1 ≡ count → Files taken new less (without_number ps id)
   files_removed id has new out taken gone rest less one = record {
     distinct = AreDistinct-without_number ps id f.distinct;
     each = λ j. elim (eqb_tells id j) [
       | inl t ↦ subst (λ k. taken k ≡ filed (without_number ps id) k) t.1 (gone ∙ sym (rw (leaf_in-without_number ps id id f.distinct, eqb_same id) refl))
       | inr t ↦ rest j (λ e. t.1 (sym e)) ∙ f.each j ∙ rw (leaf_in-without_number ps id j f.distinct, t.0) refl
     ];
-    joined = numbers-without ps id has ∙ ap (λ ns. take (index_of ps id) ns ++ drop (index_of ps id + 1) ns) f.joined ∙ sym out.joined;
+    joined = numbers-without ps id has ∙ ap (λ ns. take (count_before ps id) ns ++ drop (count_before ps id + 1) ns) f.joined ∙ sym out.joined;
     filled = out.filled;
     apart = out.apart;
     counted = (let n = length-without_number ps id has in let c = f.counted in omega arith);
@@ -62,13 +62,13 @@ module _ {K V : Type 0} {leaves : ℕ → Option (Leaf K V)} {rows : List (Numbe
       }
 
   -- the number of a leaf is removed from its row
-  pub taken_out : (id : ℕ) → Has ps id → (p : Position) → position_at rows (index_of ps id) ≡ Some p → (new : List (Numbered (List ℕ))) → IfSome (leaf_in rows p.row) (λ ids. length ids ≡ 1 → new ≡ without_number rows p.row) → IfSome (leaf_in rows p.row) (λ ids. length ids ≢ 1 → new ≡ with_pair rows p.row (take p.index ids ++ drop (p.index + 1) ids)) → TakesOut rows new (index_of ps id)
+  pub taken_out : (id : ℕ) → Has ps id → (p : Position) → position_at rows (count_before ps id) ≡ Some p → (new : List (Numbered (List ℕ))) → IfSome (leaf_in rows p.row) (λ ids. length ids ≡ 1 → new ≡ without_number rows p.row) → IfSome (leaf_in rows p.row) (λ ids. length ids ≢ 1 → new ≡ with_pair rows p.row (take p.index ids ++ drop (p.index + 1) ids)) → TakesOut rows new (count_before ps id)
   taken_out id has p at new one more =
-      let s = standing rows (index_of ps id) p at in
-      let r : leaf_in rows p.row ≡ Some s.ids = standing-row rows (index_of ps id) p s f.apart in
+      let s = standing rows (count_before ps id) p at in
+      let r : leaf_in rows p.row ≡ Some s.ids = standing-row rows (count_before ps id) p s f.apart in
       elim (eqb_tells (length s.ids) 1) [
-        | inl t ↦ takes_one rows (index_of ps id) p s f.apart f.filled t.1 new ((rw r at one) t.1)
-        | inr t ↦ takes_more rows (index_of ps id) p s f.apart f.filled t.1 new ((rw r at more) t.1)
+        | inl t ↦ takes_one rows (count_before ps id) p s f.apart f.filled t.1 new ((rw r at one) t.1)
+        | inr t ↦ takes_more rows (count_before ps id) p s f.apart f.filled t.1 new ((rw r at more) t.1)
       ]
 
   -- if a pair is added, and its number is added to the rows, the pairs are filed

@@ -4,7 +4,7 @@ use Rattle.std.specs.Prelude.{option_map, IfSome}
 use Rattle.std.proofs.lemmas.List.{length-map}
 use Rattle.art_rows.specs.Numbers.{Numbered, leaf_in, Has, last_number, number_after, number_before, Lacks, AreDistinct}
 use Rattle.art_rows.specs.Rows.{among, index_in, nth, numbers, row_with, position_at, start_of}
-use Rattle.art_rows.specs.Leaves.{Leaves, index_of}
+use Rattle.art_rows.specs.Leaves.{Leaves, count_before}
 use Rattle.art_rows.specs.Filing.{gather, Files, pairs_in, AllFiled, AllPlaced, content}
 use Rattle.art_slots.specs.Store.{Store, slot_at, used_count}
 use Rattle.art_rows.specs.declared.leaves.Leaf.{Leaf}
@@ -116,7 +116,7 @@ module _ {K V : Type 0} {leaves : ℕ → Option (Leaf K V)} {rows : List (Numbe
   row_has i h = rw (found rows i f.apart (in_rows f i h)).row refl
 
   -- the position of a number is its row, and its index in that row
-  pub located : (i : ℕ) → Has ps i → (ids : List ℕ) → leaf_in rows (row_with rows i) ≡ Some ids → position_at rows (index_of ps i) ≡ Some (record { row = row_with rows i; index = index_in ids i })
+  pub located : (i : ℕ) → Has ps i → (ids : List ℕ) → leaf_in rows (row_with rows i) ≡ Some ids → position_at rows (count_before ps i) ≡ Some (record { row = row_with rows i; index = index_in ids i })
   located i h ids g =
       let s = found rows i f.apart (in_rows f i h) in
       let a : Some ids ≡ Some s.ids = sym g ∙ s.row in
@@ -187,7 +187,7 @@ module _ {K V : Type 0} {leaves : ℕ → Option (Leaf K V)} {rows : List (Numbe
     backward_none z e = standing-first rows k p (standing rows k p at) f.apart f.filled (omega arith) e
 
   -- the position of a leaf is the position at which its number is found
-  pub stands_there : (i : ℕ) (p : Position) (ids : List ℕ) → leaf_in rows p.row ≡ Some ids → nth ids p.index ≡ Some i → position_at rows (index_of ps i) ≡ Some p
+  pub stands_there : (i : ℕ) (p : Position) (ids : List ℕ) → leaf_in rows p.row ≡ Some ids → nth ids p.index ≡ Some i → position_at rows (count_before ps i) ≡ Some p
   stands_there i p ids g e =
       let h : Has rows p.row = rw g refl in
       let s = split rows p.row h in
@@ -202,7 +202,7 @@ module _ {K V : Type 0} {leaves : ℕ → Option (Leaf K V)} {rows : List (Numbe
   -- the number after a leaf in its row is the number of the next leaf
   pub after_there : (i n : ℕ) → Has ps i → (p : Position) (ids : List ℕ) → leaf_in rows p.row ≡ Some ids → nth ids p.index ≡ Some i → nth ids (p.index + 1) ≡ Some n → number_after ps i ≡ Some n
   after_there i n h p ids g e b =
-      let k : ℕ = index_of ps i in
+      let k : ℕ = count_before ps i in
       let q : Position = record { row = p.row; index = p.index + 1 } in
       let at : position_at rows (k + 1) ≡ Some q = forward_within k p (stands_there i p ids g e) ids g (nth-within ids (p.index + 1) n b) in
       number_after-nth ps i h ∙ number_there (k + 1) q at ids g ∙ b
@@ -210,7 +210,7 @@ module _ {K V : Type 0} {leaves : ℕ → Option (Leaf K V)} {rows : List (Numbe
   -- the number before a leaf in its row is the number of the leaf before
   pub before_there : (i n : ℕ) → Has ps i → (p : Position) (ids : List ℕ) → leaf_in rows p.row ≡ Some ids → 0 < p.index → nth ids p.index ≡ Some i → nth ids (p.index - 1) ≡ Some n → number_before ps i ≡ Some n
   before_there i n h p ids g w e b =
-      let k : ℕ = index_of ps i in
+      let k : ℕ = count_before ps i in
       let s = stands_there i p ids g e in
       let q : Position = record { row = p.row; index = p.index - 1 } in
       let at : position_at rows (k - 1) ≡ Some q = backward_within k p s w in
@@ -224,8 +224,8 @@ module _ {K V : Type 0} {leaves : ℕ → Option (Leaf K V)} {rows : List (Numbe
 
   -- if there is no position before, there is no number before
   pub none_before : (i : ℕ) → Has ps i → (p : Position) (o : Option Position) → ((k : ℕ) → position_at rows (k + 1) ≡ Some p → o ≡ position_at rows k) →
-      (position_at rows 0 ≡ Some p → o ≡ None) → position_at rows (index_of ps i) ≡ Some p → o ≡ None → number_before ps i ≡ None
-  none_before i has p o before first at is = elim (before_cases rows p o before first (index_of ps i) at) [
+      (position_at rows 0 ≡ Some p → o ≡ None) → position_at rows (count_before ps i) ≡ Some p → o ≡ None → number_before ps i ≡ None
+  none_before i has p o before first at is = elim (before_cases rows p o before first (count_before ps i) at) [
     | inl t ↦ number_before-first None ps i has t.0
     | inr t ↦ number_before-nth None ps i t.0 has t.1.0 ∙ none_there t.0 (sym t.1.1 ∙ is)
   ]
@@ -234,11 +234,11 @@ module _ {K V : Type 0} {leaves : ℕ → Option (Leaf K V)} {rows : List (Numbe
   pub how_many : length (numbers rows) ≡ length ps
   how_many = sym (ap length f.joined) ∙ length-map ps (λ q. q.0)
 
-  -- an index is less than the number of leaves
-  pub index_below : (i : ℕ) (p : Position) → Has ps i → position_at rows (index_of ps i) ≡ Some p → p.index < count
+  -- the index of a position is less than the number of leaves
+  pub index_below : (i : ℕ) (p : Position) → Has ps i → position_at rows (count_before ps i) ≡ Some p → p.index < count
   index_below i p h at =
-      let k = (standing rows (index_of ps i) p at).index in
-      let w : index_of ps i < length (map (λ q. q.0) ps) = index_in-within (map (λ q. q.0) ps) i (among-numbers ps i h) in
+      let k = (standing rows (count_before ps i) p at).index in
+      let w : count_before ps i < length (map (λ q. q.0) ps) = index_in-within (map (λ q. q.0) ps) i (among-numbers ps i h) in
       let n : length (map (λ q. q.0) ps) ≡ length ps = length-map ps (λ q. q.0) in
       let c = f.counted in
       omega arith

@@ -98,7 +98,7 @@ module _ {X : Type 0} {leaves : ℕ → Option (Link X)} {first last : Option �
           let g : None ≡ Some r = sym e ∙ l.each i ∙ rw f refl in
           absurd (cc)
 
-  -- the number after an index has a record
+  -- the next number has a record
   pub record_next : (o : Option ℕ) → IfSome (next_number o ps) (λ j. IsSome (leaves j))
   record_next o = go (next_number o ps) refl
     where

@@ -84,7 +84,7 @@ module _ {X : Type 0} where
     | inr t ↦ rw t.0 (is_at-after ps i j l.1)
   ]
 
-  -- a number that no pair has is not after an index
+  -- a number that no pair has is not the next number
   pub is_at-next_number : (o : Option ℕ) (ps : List (Numbered X)) (j : ℕ) → Lacks ps j → is_at (next_number o ps) j ≡ false
   is_at-next_number None ps j l = is_at-first ps j l
   is_at-next_number (Some i) ps j l = is_at-after ps i j l
@@ -578,7 +578,7 @@ module _ {X : Type 0} where
   no_last (p ∷ []) e = absurd cc
   no_last (p ∷ q ∷ ps) e = absurd (let h : q ∷ ps ≡ [] = no_last (q ∷ ps) e in cc)
 
-  -- the list has the number after an index
+  -- the list has the next number
   pub Has-next_number : (o : Option ℕ) (ps : List (Numbered X)) (j : ℕ) → next_number o ps ≡ Some j → Has ps j
   Has-next_number o ps j e = has_at (next_number o ps) ps j (is_at-next_number o ps j) e
 

@@ -43,6 +43,6 @@ module _ {K V : Type 0} where
   abbrev pub content : Store (Leaf K V) → Numbers (List ℕ) → Leaves K V
   content leaves rows = record { pairs = pairs_in leaves rows.pairs; rows = rows.pairs; spare_rows = rows.spare }
 
-  -- the records are filed, and the store has a slot for each cell of the rows
+  -- the records are filed, and the table has each cell of the rows
   abbrev pub AllPlaced : Store (Leaf K V) → Numbers (List ℕ) → Type 0
   AllPlaced leaves rows = AllFiled leaves rows.pairs × (ROW * rows.top ≤ length leaves.slots)

@@ -32,13 +32,13 @@ module _ {K V : Type 0} where
   end_room l = ROW * l.spare_rows + row_end_room (lengths l.rows)
 
   -- how many pairs come before the pair of a number
-  abbrev pub index_of : List (Numbered (K × V)) → ℕ → ℕ
-  index_of ps i = index_in (map (λ p. p.0) ps) i
+  abbrev pub count_before : List (Numbered (K × V)) → ℕ → ℕ
+  count_before ps i = index_in (map (λ p. p.0) ps) i
 
-  -- how many pairs come before a gap, which is after a number or before all pairs
+  -- how many pairs come before a spot, which is after a number or before all pairs
   abbrev pub spot_index : Option ℕ → List (Numbered (K × V)) → ℕ
   spot_index None ps = 0
-  spot_index (Some i) ps = index_of ps i + 1
+  spot_index (Some i) ps = count_before ps i + 1
 
   -- the pairs, with another value under a number
   abbrev pub with_value : List (Numbered (K × V)) → ℕ → V → List (Numbered (K × V))

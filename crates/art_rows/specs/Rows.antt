@@ -40,7 +40,7 @@ abbrev pub AreFilled : List (Numbered (List ℕ)) → Type 0
 AreFilled [] = Unit {0}
 AreFilled (r ∷ rs) = (0 < length r.1) × AreFilled rs
 
--- an index in a row, or its end, with k numbers before it
+-- a position, or the end of a row, with k numbers before it
 pub record IsSpot (rows : List (Numbered (List ℕ))) (p : Position) (k : ℕ) : Type 0 where
   pub before : List (Numbered (List ℕ))
   pub ids : List ℕ

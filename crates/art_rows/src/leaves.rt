@@ -4,7 +4,7 @@ ghost use Rattle.art_rows.specs.Numbers.{leaf_in, Has, AreDistinct, first_number
 ghost use Rattle.art_rows.specs.Rows.{position_at, nth, RunsBefore, IsLookedUp, StandsAfter};
 ghost use Rattle.art_rows.specs.declared.row.Position.{Position};
 ghost use Rattle.art_rows.specs.declared.row.TheConstants.{ROW};
-ghost use Rattle.art_rows.specs.Leaves.{index_of, room, end_room, TakesFirst, TakesLast, AreCopies};
+ghost use Rattle.art_rows.specs.Leaves.{count_before, room, end_room, TakesFirst, TakesLast, AreCopies};
 ghost use Rattle.art_rows.specs.LeafLends.{lends_value, lends_leaf};
 ghost use Rattle.std.specs.Borrow.{sem};
 
@@ -54,8 +54,8 @@ impl<K: Clone, V: Clone> Clone for Leaf<K, V> {
 /// The leaves of a tree in byte order. A contract sees the pairs in order, each under its leaf's
 /// id, the rows of the ids, and the number of spare rows.
 ///
-/// The id of a leaf is the number of its cell. A new leaf goes into an unused cell of its row, so
-/// the leaves of a row lie in few places.
+/// The id of a leaf is the number of its cell. A new leaf goes into an unused cell of its row. So
+/// the cells of a row that was in no cut lie side by side.
 #[derive(Drop)]
 pub struct Leaves<K, V> {
     pub(crate) records: Table<Leaf<K, V>>,
@@ -109,7 +109,7 @@ impl<K, V> Leaves<K, V> {
     /// leaf.
     pub fn position_of(&self, id: LeafId) -> Position
         requires { Has self.now.pairs id }
-        ensures { position_at self.now.rows (index_of self.now.pairs id) ≡ Some result }
+        ensures { position_at self.now.rows (count_before self.now.pairs id) ≡ Some result }
     {
         let row = self.rows.row_of(id);
         let ids = self.rows.read(row);
@@ -127,7 +127,7 @@ impl<K, V> Leaves<K, V> {
     #[inline(never)]
     fn position_near(&self, id: LeafId, seen: Position) -> Position
         requires { Has self.now.pairs id }
-        ensures { position_at self.now.rows (index_of self.now.pairs id) ≡ Some result }
+        ensures { position_at self.now.rows (count_before self.now.pairs id) ≡ Some result }
     {
         match self.rows.get(seen.row) {
             Some(row) if row.has_at(seen.index, id) => seen,
@@ -542,7 +542,7 @@ impl<K: Drop, V: Drop> Leaves<K, V> {
     /// Removes the leaf at this position, and returns its pair.
     fn remove_at(&mut self, id: LeafId, position: Position) -> (K, V)
         requires has { Has self.old.pairs id }
-        requires at { position_at self.old.rows (index_of self.old.pairs id) ≡ Some position }
+        requires at { position_at self.old.rows (count_before self.old.pairs id) ≡ Some position }
         ensures value { leaf_in self.old.pairs id ≡ Some result }
         ensures rest { self.new.pairs ≡ without_number self.old.pairs id }
         ensures room { room self.old ≤ room self.new }
@@ -663,13 +663,13 @@ impl<K: Drop, V: Drop> Leaves<K, V> {
         ensures ok { OnOk result (self.new.spare_rows ≡ self.old.spare_rows + 1) }
     {
         self.rows.grow()?;
-        let row = self.rows.next_slot();
+        let row = self.rows.next_row();
         if row >= MOST_ROWS {
             return Err(AllocError);
         }
         self.records.grow(ROW * (row + 1))?;
         self.rows.add_cells(row + 1)?;
-        self.rows.add_slot();
+        self.rows.add_spare();
         Ok(())
     }
 

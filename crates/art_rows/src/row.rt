@@ -175,8 +175,8 @@ impl<'a> Row<'a> {
     }
 }
 
-/// Returns the index of a number that is at one of 64 indices. It looks at each, and adds up
-/// the indices of the number: a loop that ends early takes longer.
+/// Returns the index of a number that a row of 64 has once. It tests each index, and adds up those
+/// at which the number is: a loop that ends early takes longer.
 fn index_of_half(low: &[u32], number: usize) -> usize
     requires long { length low.now ≡ ROW }
     requires once { times low.now number ≡ 1 }

@@ -75,7 +75,7 @@ impl Rows {
     }
 
     /// Returns the number of the next new row.
-    pub(crate) fn next_slot(&self) -> usize
+    pub(crate) fn next_row(&self) -> usize
         ensures { result ≡ self.now.next }
     {
         self.counts.next_slot()
@@ -271,7 +271,7 @@ impl Rows {
     }
 
     /// Adds a spare row, which has cells. Does not allocate.
-    pub(crate) fn add_slot(&mut self)
+    pub(crate) fn add_spare(&mut self)
         requires room { 0 < self.old.room }
         requires cells { self.old.next < self.old.top }
         ensures pairs { self.new.pairs ≡ self.old.pairs }

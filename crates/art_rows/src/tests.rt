@@ -13,13 +13,13 @@ use std::process::Abort;
 
 type Key = [u8; 3];
 
-/// Returns the key of an index less than 1,000, with a byte for each of its digits.
+/// Returns the key of a number less than 1,000, with a byte for each of its digits.
 fn key_of(index: usize) -> Key {
     let byte_of = |digit: usize| ((digit % 10) as u8).wrapping_mul(37).wrapping_add(100);
     [byte_of(index / 100), byte_of(index / 10), byte_of(index)]
 }
 
-/// Adds the pair of an index at the end.
+/// Adds the pair of a number at the end.
 fn push(rt: &impl Abort, leaves: &mut Leaves<Key, usize>, index: usize) {
     leaves.reserve_end(1).expect(rt, "memory");
     leaves.push(key_of(index), index);

@@ -1,6 +1,6 @@
-//! Takes a tree apart. It has a thousand keys, each with its number as value. The tests assert what
-//! the tree is made of, and that nothing else is there. Each pattern names every field of its type,
-//! so a new field does not compile until a test looks at it.
+//! Takes a tree apart. It has the keys of 0 to 999, each with that number as value. The tests
+//! assert what the tree is made of, and that nothing else is there. Each pattern names every field
+//! of its type, so a new field does not compile until a test looks at it.
 use crate::pair_list::Pairs;
 use crate::tree::Tree;
 use crate::tree::build::Frame;

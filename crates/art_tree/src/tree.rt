@@ -199,7 +199,8 @@ impl<K: AsBytes, V, const PREFIX_LEN: usize> Tree<K, V, PREFIX_LEN> {
     }
 
     /// Returns the point of these bytes: the leaf that has them, the leaves that they conflict
-    /// with, or the gap where they go. The point is good for these bytes while the pairs are unchanged.
+    /// with, or the gap for them. In a tree with no pairs it is `Empty`. The point is good for
+    /// these bytes while the pairs are unchanged.
     ///
     /// Cost: one descent.
     pub fn point(&self, query: &[u8]) -> Point
@@ -267,8 +268,8 @@ impl<K: AsBytes + Drop, V: Drop, const PREFIX_LEN: usize> Tree<K, V, PREFIX_LEN>
     /// the key, and there must be room at it. Each other id names the pair that it named. Does not
     /// allocate.
     ///
-    /// Cost: one descent, unless the edge at the point leads to the nearest leaf, or to a node with
-    /// an edge to it.
+    /// Cost: at most two reads of nodes. If they do not show that the fork of the point is still
+    /// right, one descent by the nearest key too.
     pub fn place(&mut self, point: Point, key: K, value: V) -> LeafId
         requires good { IsGood K.bytes self.old.pairs point (K.bytes key) }
         requires open { IsOpen point }

@@ -12,10 +12,10 @@ use blart_keys::AsBytes;
 use std::alloc::{AllocError, Global};
 use std::default::MadeWith;
 
-/// The place of a key in a map: the pair with its bytes, or a new place.
+/// The entry of a key in a map: its pair, or a vacant entry.
 ///
-/// A growing call fails to allocate on `Vacant` alone, and then the map is unchanged. A closure or
-/// a default is called on `Vacant` alone, once there is room.
+/// A call that inserts fails to allocate on `Vacant` alone, and then the map is unchanged. A
+/// closure or a default is called on `Vacant` alone, once there is room.
 ///
 /// ```
 /// *map.try_entry("cat")?.or_insert(1)? = 2;

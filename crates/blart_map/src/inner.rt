@@ -18,8 +18,8 @@ use blart_keys::AsBytes;
 use std::alloc::AllocError;
 use std::marker::PhantomData;
 
-/// The entry of a key that a map lacks, and that conflicts with some of its keys. It is the place
-/// of the pairs to which the key is related. None of its calls allocates.
+/// The entry of a key that a map lacks, and that conflicts with some of its keys. Its insertions
+/// replace the pairs to which the key is related. None of its calls allocates.
 ///
 /// Two keys are related if the bytes of one are a prefix of the other's. Here there are two cases.
 /// A stored key is a prefix of the entry's key, and then no other stored key is related to it. Or

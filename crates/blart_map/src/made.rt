@@ -11,7 +11,7 @@ use std::default::{Emptied, MadeWith};
 impl<K: AsBytes, V, const PREFIX_LEN: usize> MadeWith<Global> for TreeMap<K, V, PREFIX_LEN> {
     ghost is_made_with = { λ map. (pairs map ≡ []) × HasNothing K.bytes (pairs map) };
 
-    /// Returns a map with no pairs. So `or_default` of the standard maps makes one.
+    /// Returns a map with no pairs. With this, `or_default` works on a map of maps.
     ///
     /// Cost: none.
     fn made_with(alloc: Global) -> Self {
@@ -22,7 +22,7 @@ impl<K: AsBytes, V, const PREFIX_LEN: usize> MadeWith<Global> for TreeMap<K, V, 
 impl<K: AsBytes, V, const PREFIX_LEN: usize> Emptied for TreeMap<K, V, PREFIX_LEN> {
     ghost is_emptied = { λ map. (pairs map ≡ []) × HasNothing K.bytes (pairs map) };
 
-    /// Returns a map with no pairs. So `mem::try_take` moves a map out of its place.
+    /// Returns a map with no pairs. With this, `mem::try_take` takes a map out of a variable.
     ///
     /// Cost: none.
     fn emptied(like: &Self) -> Result<Self, AllocError> {

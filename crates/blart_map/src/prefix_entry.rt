@@ -14,17 +14,16 @@ use blart_keys::AsBytes;
 use std::alloc::{AllocError, Global};
 use std::default::MadeWith;
 
-/// The place of a key in a map: the pair with its bytes, the pairs with which it conflicts, or a
-/// new place.
+/// The entry of a key in a map: its pair, the pairs with which it conflicts, or a vacant entry.
 ///
 /// Call [`PrefixEntry::kind`] first, as the example does: only the calls of [`PrefixKind`] have all
 /// clauses, since the borrow checker of the language carries no clause about the map through an
-/// enum in an enum. The growing calls of this type do the same, but their contracts do not say what
-/// the map is after a write or an error.
+/// enum in an enum. The calls of this type that insert do the same, but their contracts do not say
+/// what the map is after a write or an error.
 ///
-/// A growing call fails to allocate on `Vacant` alone. A closure or a default is called on `Vacant`
-/// and `Inner` alone, once there is room. On `Inner` such a call removes all pairs to which the key
-/// is related, and places the key.
+/// A call that inserts fails to allocate on `Vacant` alone. A closure or a default is called on
+/// `Vacant` and `Inner` alone, once there is room. On `Inner` such a call removes all pairs to
+/// which the key is related, and places the key.
 ///
 /// ```
 /// map.try_insert("car", 1)?;
@@ -44,9 +43,9 @@ pub enum PrefixEntry<'a, K: AsBytes, V, const PREFIX_LEN: usize, T: 'a> {
 impl<'a, K: AsBytes, V, const PREFIX_LEN: usize, T: 'a> PrefixEntry<'a, K, V, PREFIX_LEN, T> {
     ghost use Rattle.blart_map.specs.PrefixEntry.{prefix_key, prefix_found};
 
-    /// Returns the stored key on `Leaf`, and otherwise the key that was handed in.
+    /// Returns the stored key if its bytes are stored, and otherwise the key that was handed in.
     ///
-    /// Cost: one visit on `Leaf`, and none otherwise.
+    /// Cost: one visit if the bytes are stored, and none otherwise.
     pub fn key(&self) -> &K
         ensures { prefix_key self.now ≡ Some result.now }
     {
@@ -56,8 +55,8 @@ impl<'a, K: AsBytes, V, const PREFIX_LEN: usize, T: 'a> PrefixEntry<'a, K, V, PR
         }
     }
 
-    /// Returns the stored key on `Leaf`, and the key that was handed in on `Vacant`. On `Inner`,
-    /// returns the key of the only related pair, or `None` if there are more.
+    /// Returns the stored key if its bytes are stored, or if it is the only one that conflicts. If
+    /// several conflict, returns `None`, and if none is related, the key that was handed in.
     ///
     /// Cost: at most one visit.
     pub fn get_key(&self) -> Option<&K>

@@ -17,7 +17,7 @@ use std::default::MadeWith;
 /// The three kinds of a prefix entry, in one enum. From each arm of a `match` a caller's proof
 /// learns what the map becomes. From a pattern in a pattern it would not.
 ///
-/// It has each growing call of [`PrefixEntry`](crate::PrefixEntry) under the same name. The
+/// It has each call of [`PrefixEntry`](crate::PrefixEntry) that inserts, under the same name. The
 /// contracts here also say what the map becomes, and that an error leaves it unchanged.
 ///
 /// ```

@@ -25,7 +25,7 @@ use Rattle.art_edits.proofs.Numbers.{cut_at, cut_pairs, exchanged_pairs}
 use Rattle.art_edits.proofs.Related.Thinning.{first_there}
 
 -- a pair may be placed at these points
-pub opens : (point : Point) → (point ≡ Empty) ⊎ ((place : Gap) × (point ≡ Free place)) → IsOpen point
+pub opens : (point : Point) → (point ≡ Empty) ⊎ ((gap : Gap) × (point ≡ Free gap)) → IsOpen point
 opens point (inl e) = subst IsOpen (sym e) tt
 opens point (inr e) = subst IsOpen (sym e.1) tt
 
@@ -34,7 +34,7 @@ pub opens_else : (point : Point) → ((i : ℕ) → point ≡ Exact i → ⊥) �
 opens_else Empty e r = tt
 opens_else (Exact id) e r = absurd (e id refl)
 opens_else (Related i j) e r = absurd (r i j refl)
-opens_else (Free place) e r = tt
+opens_else (Free gap) e r = tt
 
 module _ {K V : Type 0} (kb : K → Bytes) (ps : List (Numbered K V)) where
   module _ (content : IsContent (bytes kb) ps) where
@@ -44,7 +44,7 @@ module _ {K V : Type 0} (kb : K → Bytes) (ps : List (Numbered K V)) where
       open_alone Empty good able y m = absurd (subst (Member y) good m)
       open_alone (Exact id) good able y m = absurd able
       open_alone (Related first last) good able y m = absurd able
-      open_alone (Free place) good able y m = free_alone kb ps content distinct q place good y m
+      open_alone (Free gap) good able y m = free_alone kb ps content distinct q gap good y m
 
       -- if the point of a key is not a conflict, the key does not conflict
       pub unrelated_point : (point : Point) → IsGood kb ps point q → ((i j : ℕ) → point ≡ Related i j → ⊥) → conflict (bytes kb) ps q ≡ false
@@ -53,7 +53,7 @@ module _ {K V : Type 0} (kb : K → Bytes) (ps : List (Numbered K V)) where
           let r = at_Some (bytes kb) ps q (id, good.0) good.1 in
           subst (λ q. conflict (bytes kb) ps q ≡ false) r.1 (stored_no_conflict (bytes kb) ps content (id, good.0) r.0)
       unrelated_point (Related first last) good never = absurd (never first last refl)
-      unrelated_point (Free place) good never = alone_no_conflict (bytes kb) ps q (open_alone (Free place) good tt)
+      unrelated_point (Free gap) good never = alone_no_conflict (bytes kb) ps q (open_alone (Free gap) good tt)
 
       -- the leaf with the bytes of a key exists
       pub exact_has : (id : ℕ) → IsGood kb ps (Exact id) q → Has ps id

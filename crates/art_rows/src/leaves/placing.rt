@@ -137,7 +137,7 @@ impl<K: Drop, V: Drop> Leaves<K, V> {
             None => self.first_position(),
             Some(id) => {
                 let position = self.position_near(id, seen);
-                // An index is less than the number of leaves, so there is a number after it.
+                // The index is less than the number of leaves, so adding 1 does not overflow.
                 let _used = self.records.used();
                 Some(Position {
                     row: position.row,

@@ -1,4 +1,4 @@
--- The gap of bytes among the keys, and the ends of the pairs within a bound or with a prefix.
+-- Where bytes are among the keys, and the ends of the pairs within a bound or with a prefix.
 use Rattle.std.proofs.Common.{◌≡◌, ℕ, ◌<◌, Bool, true, false, not, ◌&&◌, List, [], ◌∷◌, filter, length, refl, ap, arith, sym, subst, Option, option_map, Some, None, Err, ◌∙◌, ◌⊎◌, inl, inr}
 use Rattle.std.proofs.Math.Bool.{and-true}
 use Rattle.std.proofs.lemmas.Bool.{false≢true, false_from_ne_true, and_from, and_parts, not-true, not_from_false}
@@ -18,7 +18,7 @@ use Rattle.art_tree.specs.Gaps.{LastBefore, IsLeafBefore, IsBeside, number_befor
 use Rattle.art_tree.specs.Leaves.{Numbered, AreDistinct, Has, bytes, keys_in, first_number, last_number, number_after, number_before, next_number}
 use Rattle.art_kinds.specs.Nodes.{Node}
 use Rattle.art_tree.specs.Seeks.{number_within, ends}
-use Rattle.art_tree.specs.Calls.Seeking.{beside, IsGapOf}
+use Rattle.art_tree.specs.Calls.Seeking.{beside, IsAtOrBefore}
 use Rattle.art_tree.specs.Invariant.Shape.{Shape}
 use Rattle.art_tree.specs.declared.tree.point.Neighbour.{Neighbour}
 use Rattle.art_kinds.specs.declared.records.ids.Child.{Child}
@@ -116,7 +116,7 @@ module _ {K V : Type 0} (key_bytes : K → Bytes) (pairs : List (Numbered K V)) 
   abbrev keys : ℕ → Option Bytes
   keys = keys_in key_bytes pairs
 
-  -- ---- gaps in the list of pairs
+  -- ---- positions in the list of pairs
 
   -- only one number has the key q
   one_number : (q : Bytes) (i j : ℕ) → keys i ≡ Some q → keys j ≡ Some q → j ≡ i
@@ -258,18 +258,18 @@ module _ {K V : Type 0} (key_bytes : K → Bytes) (pairs : List (Numbered K V)) 
   none_under q never = ap ends (filter_none (λ x. begins q (bytes key_bytes x)) pairs (λ y m. false_from_ne_true (begins q (bytes key_bytes y)) (λ t. never y.0 (bytes key_bytes y) (key_of_member key_bytes pairs y distinct m) (Begins-from_begins q (bytes key_bytes y) t))))
 
   module _ (nodes : ℕ → Option Node) (q : Bytes) where
-    -- the gap of q if a key is a prefix of q: the leaf before q, and no key is q
-    pub gap_shorter : {P : ℕ} → (root : Option Child) → Shape P keys nodes root → (i : ℕ) → KeyEnds keys i q → IsGapOf keys q (Err (Some i))
-    gap_shorter root s i m =
+    -- if a key is a proper prefix of q, its leaf is the leaf before q, and no key is q
+    pub at_or_before_shorter : {P : ℕ} → (root : Option Child) → Shape P keys nodes root → (i : ℕ) → KeyEnds keys i q → IsAtOrBefore keys q (Err (Some i))
+    at_or_before_shorter root s i m =
         let l : length m.key < length q = m.shorter in
         (last_front keys q nodes root s i m.key m.is m.begins l, no_key keys nodes root s i m.key m.is q (inl m.begins) (omega arith))
 
     -- the same if q is a prefix of some keys
-    pub gap_longer : {P : ℕ} → (c : Child) → QueryEnds P (keys_in key_bytes pairs) nodes c q → (first : ℕ) → IsEndUnder keys true q first → (o : Option ℕ) → o ≡ number_before pairs first → IsGapOf keys q (Err o)
-    gap_longer c m first u o e =
+    pub at_or_before_longer : {P : ℕ} → (c : Child) → QueryEnds P (keys_in key_bytes pairs) nodes c q → (first : ℕ) → IsEndUnder keys true q first → (o : Option ℕ) → o ≡ number_before pairs first → IsAtOrBefore keys q (Err o)
+    at_or_before_longer c m first u o e =
         let l : length q < length m.key = m.longer in
         (subst (λ (o : Option ℕ). IsLeafBefore keys q o) (sym e) (leaf_before_first_from key_bytes pairs content distinct q first (least_from keys q first u)), no_key keys nodes m.root m.shape m.leaf m.key m.is q (inr m.begun) (omega arith))
 
   -- and beside a child
-  pub gap_beside : (q : Bytes) → ((j : ℕ) (k : Bytes) → keys j ≡ Some k → related k q ≡ false) → (beside : Neighbour) → IsBeside keys q beside → (o : Option ℕ) → o ≡ number_before_gap pairs beside → IsGapOf keys q (Err o)
-  gap_beside q alone beside st o e = (subst (λ (o : Option ℕ). IsLeafBefore keys q o) (sym e) (before_beside key_bytes pairs content distinct q alone beside st), no_key_alone keys q alone)
+  pub at_or_before_beside : (q : Bytes) → ((j : ℕ) (k : Bytes) → keys j ≡ Some k → related k q ≡ false) → (beside : Neighbour) → IsBeside keys q beside → (o : Option ℕ) → o ≡ number_before_gap pairs beside → IsAtOrBefore keys q (Err o)
+  at_or_before_beside q alone beside st o e = (subst (λ (o : Option ℕ). IsLeafBefore keys q o) (sym e) (before_beside key_bytes pairs content distinct q alone beside st), no_key_alone keys q alone)

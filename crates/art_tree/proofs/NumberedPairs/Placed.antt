@@ -43,12 +43,12 @@ shown_rest P nodes root gap keys None h = tt
 shown_rest P nodes root gap keys (Some fork) h = h keys
 
 module _ {K V : Type 0} (key_bytes : K → Bytes) where
-  -- the leaf before a place is a leaf of the pairs
+  -- the leaf before some bytes is a leaf of the pairs
   pub has_leaf_before : (pairs : List (Numbered K V)) (q : Bytes) (prev : Option ℕ) → IsLeafBefore (keys_in key_bytes pairs) q prev → IfSome prev (Has pairs)
   has_leaf_before pairs q None st = tt
   has_leaf_before pairs q (Some i) st = has_key key_bytes pairs i st.key st.is
 
-  -- a pair is placed after the leaf before its place
+  -- a pair is placed after the leaf before its bytes
   pub placed_pairs : (old new : List (Numbered K V)) (q : Bytes) (prev : Option ℕ) (i : ℕ) (x : K × V) → IsContent (bytes key_bytes) old → AreDistinct old → ((j : ℕ) (k : Bytes) → keys_in key_bytes old j ≡ Some k → related k q ≡ false)
       → IsLeafBefore (keys_in key_bytes old) q prev → leaf_in old i ≡ None → key_bytes x.0 ≡ q → new ≡ with_pair_after prev (i, x) old → PutsPair key_bytes old new i x
   placed_pairs old new q prev i x content distinct alone st fresh own is =
@@ -86,15 +86,15 @@ module _ {K V : Type 0} (key_bytes : K → Bytes) where
     alone : (j : ℕ) (k : Bytes) → keys_in key_bytes old j ≡ Some k → related k q ≡ false
     alone = leaving_unrelated (keys_in key_bytes old) gap.nearest gap.depth q free.leaves (none_begins key_bytes old content distinct)
 
-    -- the leaf before a free place
+    -- the leaf before a gap
     pub free_before : IsLeafBefore (keys_in key_bytes old) q prev
     free_before = subst (IsLeafBefore (keys_in key_bytes old) q) (sym prev_is) (before_beside key_bytes old content distinct q alone gap.beside free.beside)
 
-    -- a pair is placed at a free place
+    -- a pair is placed at a gap
     pub placed_free : (new : List (Numbered K V)) (i : ℕ) (x : K × V) → key_bytes x.0 ≡ q → leaf_in old i ≡ None → new ≡ with_pair_after prev (i, x) old → PutsPair key_bytes old new i x
     placed_free new i x own fresh is = placed_pairs old new q prev i x content distinct alone free_before fresh own is
 
-  -- the leaf beside a place is a leaf of the pairs
+  -- the leaf beside a gap is a leaf of the pairs
   pub has_beside : (pairs : List (Numbered K V)) (q : Bytes) (beside : Neighbour) → IsBeside (keys_in key_bytes pairs) q beside → Has pairs (neighbour beside)
   has_beside pairs q (AfterLeaf i) st = has_key key_bytes pairs i st.key st.is
   has_beside pairs q (BeforeLeaf i) st = has_key key_bytes pairs i st.key st.is

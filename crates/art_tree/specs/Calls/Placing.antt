@@ -42,14 +42,14 @@ IsShownIn P keys nodes root nearest depth fork =
 abbrev pub IsShown : ℕ → (ℕ → Option Node) → Option Child → Gap → Fork → Type 0
 IsShown P nodes root gap fork = (keys : ℕ → Option Bytes) → IsShownIn P keys nodes root gap.nearest gap.depth fork
 
--- if the point is free, this is true of its place
+-- if the point is free, this is true of its gap
 abbrev pub IfFree : Point → (Gap → Type 0) → Type 0
 IfFree Empty T = Unit {0}
 IfFree (Exact id) T = Unit {0}
 IfFree (Related first last) T = Unit {0}
 IfFree (Free gap) T = T gap
 
--- in some tree, this is the key of the place's nearest leaf, and the fork is right if it is known
+-- in some tree, this is the key of the gap's nearest leaf, and the fork is right if it is known
 pub record HasNearest (P : ℕ) (nodes : ℕ → Option Node) (root : Option Child) (gap : Gap) (shown : Option Fork) (nearest : Bytes) : Type 0 where
   pub keys : ℕ → Option Bytes
   pub shape : Shape P keys nodes root

@@ -73,7 +73,8 @@ pub(crate) fn end_under<const P: usize>(
     }
 }
 
-/// Returns the end of the keys below a child that is next to a gap after or before them.
+/// Returns the end of some keys that is beside a gap: the last if the gap is after them, or else
+/// the first.
 pub(crate) fn end_near(is_after: bool) -> End
     ensures { is_first result ≡ not is_after }
 {

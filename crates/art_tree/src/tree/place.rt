@@ -252,8 +252,8 @@ fn fork_shown<const P: usize>(skeleton: &Skeleton<P>, gap: &Gap) -> Option<Fork>
     }
 }
 
-/// Returns the edge above a gap, and the child that it leads to, or `None` if that edge is gone
-/// or its node is not above the gap.
+/// Returns the edge above a gap's fork, and the child that it leads to now, or `None` if that edge
+/// is gone, or its node is as deep as the gap or deeper.
 fn edge_toward<const P: usize>(skeleton: &Skeleton<P>, gap: &Gap) -> Option<(EdgeAbove, Child)>
     ensures leads { IfSome result
         (λ e. LeadsTo (at skeleton.now.nodes) skeleton.now.root e.0 e.1) }

@@ -19,15 +19,15 @@ use art_rows::{Leaves, Position};
 use art_slots::{LeafId, Visits};
 use blart_keys::AsBytes;
 
-/// The gap of a key that is related to no stored key. It is good for the bytes that it was found
-/// for, while the pairs are unchanged.
+/// Where a pair goes whose key is related to no stored key. It is good for the bytes that it was
+/// found for, while the pairs are unchanged.
 #[derive(Clone, Copy)]
 pub struct Gap {
     /// A leaf whose key has the first `depth` bytes in common with these. No key has more.
     pub(crate) nearest: LeafId,
     /// The number of bytes that the nearest key has in common with these.
     pub(crate) depth: usize,
-    /// The side of the nearest leaf that the gap is on.
+    /// The nearest leaf, and the side of it on which the gap is.
     pub(crate) beside: Neighbour,
     /// The fork at which the bytes part from the keys. It may have changed since.
     pub(crate) fork: Fork,
@@ -35,7 +35,7 @@ pub struct Gap {
     pub(crate) byte: u8,
 }
 
-/// A leaf beside a gap.
+/// The leaf beside a gap, and the side of it on which the gap is.
 #[derive(Clone, Copy)]
 pub(crate) enum Neighbour {
     /// The gap is after this leaf.

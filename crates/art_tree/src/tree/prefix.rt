@@ -53,8 +53,8 @@ impl<K: AsBytes + Drop, V: Drop, const PREFIX_LEN: usize> Tree<K, V, PREFIX_LEN>
     }
 }
 
-/// Removes the leaves of a subtree but the last, and redirects the edge above the subtree to that
-/// one.
+/// Removes the leaves of a subtree except for the last, and redirects the edge above it to the
+/// last.
 fn prune<K: AsBytes + Drop, V: Drop, const P: usize>(
     leaves: &mut Leaves<K, V>,
     skeleton: &mut Skeleton<P>,

@@ -6,7 +6,7 @@ ghost use Rattle.blart_keys.specs.Content.{IsContent, under};
 ghost use Rattle.art_tree.specs.Leaves.{Has, keys_in, bytes};
 ghost use Rattle.art_tree.specs.Longest.{longest};
 ghost use Rattle.art_tree.specs.Seeks.{number_within, ends, bound_len};
-ghost use Rattle.art_tree.specs.Calls.Seeking.{IsGapOf, beside};
+ghost use Rattle.art_tree.specs.Calls.Seeking.{IsAtOrBefore, beside};
 ghost use Rattle.art_tree.specs.Calls.Stops.{IsChildBeside};
 ghost use Rattle.art_tree.specs.Begins.{Bytes};
 ghost use Rattle.art_tree.specs.Calls.Pruning.{IsSubtreeWith};
@@ -47,11 +47,11 @@ impl<K: AsBytes, V, const PREFIX_LEN: usize> Tree<K, V, PREFIX_LEN> {
         self.law();
         match bound {
             Bound::Unbounded => { if is_start { self.first() } else { self.last() } }
-            Bound::Included(query) => match self.find_gap(query, visits) {
+            Bound::Included(query) => match self.at_or_before(query, visits) {
                 Ok(id) => Some(id),
                 Err(prev) => self.side_of(prev, is_start),
             },
-            Bound::Excluded(query) => match self.find_gap(query, visits) {
+            Bound::Excluded(query) => match self.at_or_before(query, visits) {
                 Err(prev) => self.side_of(prev, is_start),
                 Ok(id) => {
                     if is_start {
@@ -106,7 +106,8 @@ impl<K: AsBytes, V, const PREFIX_LEN: usize> Tree<K, V, PREFIX_LEN> {
         Some((first, last))
     }
 
-    /// Returns the leaf after a gap if `is_after` is set, or else `prev`, the leaf before it.
+    /// Returns the leaf after `prev`, or the first leaf if it is `None`. If `is_after` is not set,
+    /// returns `prev`.
     fn side_of(&self, prev: Option<LeafId>, is_after: bool) -> Option<LeafId>
         requires { IfSome prev (Has self.now.pairs) }
         ensures { result ≡ beside prev self.now.pairs is_after }
@@ -120,9 +121,9 @@ impl<K: AsBytes, V, const PREFIX_LEN: usize> Tree<K, V, PREFIX_LEN> {
         }
     }
 
-    /// Returns the leaf with these bytes, or else the leaf before the gap where they would go.
-    fn find_gap(&self, query: &[u8], visits: &mut Visits) -> Result<LeafId, Option<LeafId>>
-        ensures stands { IsGapOf (keys_in K.bytes self.now.pairs) query.now result }
+    /// Returns the leaf with these bytes, or as an error the last leaf whose key is less, if any.
+    fn at_or_before(&self, query: &[u8], visits: &mut Visits) -> Result<LeafId, Option<LeafId>>
+        ensures stands { IsAtOrBefore (keys_in K.bytes self.now.pairs) query.now result }
         ensures counted { visits.new.count
             ≤ visits.old.count + (length query.now + 2)
             * (longest (bytes K.bytes) self.now.pairs + 1) }
@@ -132,14 +133,20 @@ impl<K: AsBytes, V, const PREFIX_LEN: usize> Tree<K, V, PREFIX_LEN> {
     {
         match self.skeleton.root {
             None => Err(None),
-            Some(root) => gap_below(&self.leaves, &self.skeleton.nodes, &root, query, visits),
+            Some(root) => at_or_before_below(
+                &self.leaves,
+                &self.skeleton.nodes,
+                &root,
+                query,
+                visits,
+            ),
         }
     }
 }
 
-/// Returns the leaf with these bytes, or else the leaf before the gap where they would go, in a
-/// tree with some pairs.
-fn gap_below<K: AsBytes, V, const P: usize>(
+/// Returns the leaf with these bytes, or as an error the last leaf whose key is less, if any. The
+/// tree has some pairs.
+fn at_or_before_below<K: AsBytes, V, const P: usize>(
     leaves: &Leaves<K, V>,
     nodes: &Nodes<P>,
     root: &Child,
@@ -147,7 +154,7 @@ fn gap_below<K: AsBytes, V, const P: usize>(
     visits: &mut Visits,
 ) -> Result<LeafId, Option<LeafId>>
     requires { IsSound K.bytes P leaves.now nodes.now (Some root.now) }
-    ensures stands { IsGapOf (keys_in K.bytes leaves.now.pairs) query.now result }
+    ensures stands { IsAtOrBefore (keys_in K.bytes leaves.now.pairs) query.now result }
     ensures counted { visits.new.count
         ≤ visits.old.count + (length query.now + 2)
         * (longest (bytes K.bytes) leaves.now.pairs + 1) }
@@ -164,18 +171,18 @@ fn gap_below<K: AsBytes, V, const P: usize>(
         }
         Stop::AtNode(id, depth) => {
             let (edge, is_after) = edge_beside(nodes, &id, query[depth], visits);
-            Err(leaf_before_gap(leaves, nodes, &edge.to, is_after, visits))
+            Err(last_leaf_before(leaves, nodes, &edge.to, is_after, visits))
         }
         Stop::AtEdge(child, depth, byte) => {
             let is_after = byte < query[depth];
-            Err(leaf_before_gap(leaves, nodes, &child, is_after, visits))
+            Err(last_leaf_before(leaves, nodes, &child, is_after, visits))
         }
     }
 }
 
-/// Returns the leaf before a gap, if there is one. The gap is after the keys below this child
-/// if `is_after` is set, or else before them.
-fn leaf_before_gap<K: AsBytes, V, const P: usize>(
+/// Returns the last leaf before some bytes, if there is one. They are after the keys below this
+/// child if `is_after` is set, or else before them.
+fn last_leaf_before<K: AsBytes, V, const P: usize>(
     leaves: &Leaves<K, V>,
     nodes: &Nodes<P>,
     child: &Child,
@@ -185,9 +192,9 @@ fn leaf_before_gap<K: AsBytes, V, const P: usize>(
     requires content { IsContent (bytes K.bytes) leaves.now.pairs }
     requires beside { (q : Bytes)
         × IsChildBeside P (keys_in K.bytes leaves.now.pairs) (at nodes.now) q child.now is_after }
-    ensures gap { (q : Bytes)
+    ensures before { (q : Bytes)
         → IsChildBeside P (keys_in K.bytes leaves.now.pairs) (at nodes.now) q child.now is_after
-        → IsGapOf (keys_in K.bytes leaves.now.pairs) q (Err result) }
+        → IsAtOrBefore (keys_in K.bytes leaves.now.pairs) q (Err result) }
     ensures counted { visits.new.count
         ≤ visits.old.count + longest (bytes K.bytes) leaves.now.pairs }
     ensures grows { visits.old.count ≤ visits.new.count }
@@ -201,8 +208,8 @@ fn leaf_before_gap<K: AsBytes, V, const P: usize>(
     }
 }
 
-/// Returns the subtree of the keys with a prefix, in a tree with some pairs, or `None` if no key has
-/// the prefix.
+/// Returns the subtree of the keys with a prefix, in a tree with some pairs, or `None` if no key
+/// has the prefix.
 pub(crate) fn subtree_below<K: AsBytes, V, const P: usize>(
     leaves: &Leaves<K, V>,
     nodes: &Nodes<P>,

@@ -173,7 +173,8 @@ fn step_at<K: AsBytes, V, const P: usize>(
 }
 
 /// Returns what the front of a node and a query have in common. Their first `start` bytes are known
-/// to be equal. The kept bytes decide if they differ from the query, or are the whole prefix.
+/// to be equal. The kept bytes decide if the query differs from them or ends within
+/// them, or if they are the whole prefix.
 fn shared_at<K: AsBytes, V, const P: usize>(
     leaves: &Leaves<K, V>,
     nodes: &Nodes<P>,

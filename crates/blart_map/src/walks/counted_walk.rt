@@ -68,10 +68,11 @@ impl<'a, K: AsBytes, V, const PREFIX_LEN: usize> CountedWalk<'a, K, V, WithKeys,
     /// the keys. Each value is then what the closure wrote, and the keys are unchanged. Does not
     /// allocate.
     ///
-    /// If each call leaves the closure unchanged, and the value that a function `h` of the pair
-    /// returns, the pairs become what `h` makes of them. The clauses `all` and `stored` say so of a
-    /// walk that has returned no value yet, and `acts` of any walk. For every closure, `each` and
-    /// `left` say which calls were made, and that each value is what its call wrote.
+    /// Suppose that no call changes the closure, and each leaves the value that a function `h` of
+    /// the pair returns. Then the pairs become what `h` makes of them. The clauses `all` and
+    /// `stored` say so of a walk that has returned no value yet, and `acts` of any walk. For every
+    /// closure, `each` and `left` say which calls were made, and that each value is what its call
+    /// wrote.
     ///
     /// Cost: one visit for each value.
     ///
@@ -154,10 +155,11 @@ impl<'a, K: AsBytes, V, const PREFIX_LEN: usize> CountedWalk<'a, K, V, ValuesAlo
     /// Calls the closure once on each value that is left, in byte order of the keys. Each value is
     /// then what the closure wrote, and the keys are unchanged. Does not allocate.
     ///
-    /// If each call leaves the closure unchanged, and the value that a function `h` of the pair
-    /// returns, the pairs become what `h` makes of them. The clauses `all` and `stored` say so of a
-    /// walk that has returned no value yet, and `acts` of any walk. For every closure, `each` and
-    /// `left` say which calls were made, and that each value is what its call wrote.
+    /// Suppose that no call changes the closure, and each leaves the value that a function `h` of
+    /// the pair returns. Then the pairs become what `h` makes of them. The clauses `all` and
+    /// `stored` say so of a walk that has returned no value yet, and `acts` of any walk. For every
+    /// closure, `each` and `left` say which calls were made, and that each value is what its call
+    /// wrote.
     ///
     /// Cost: one visit for each value.
     ///

@@ -172,11 +172,11 @@ impl<'a, K: AsBytes, V, M, const PREFIX_LEN: usize> LendingWalk<'a, K, V, M, PRE
     /// the keys. Each value is then what the closure wrote, and the keys are unchanged. Does not
     /// allocate.
     ///
-    /// If each call leaves the closure unchanged, and the value that a function `h` of the pair
-    /// returns, the pairs become what `h` makes of them. The clause `within` says so, over the
-    /// pairs that pass a test, of a walk that has returned no value yet, and `acts` of any walk.
-    /// For every closure, `each` and `left` say which calls were made, and that each value is what
-    /// its call wrote: `each` of a walk that has returned no value yet.
+    /// Suppose that no call changes the closure, and each leaves the value that a function `h` of
+    /// the pair returns. Then the pairs become what `h` makes of them. The clause `within` says so,
+    /// over the pairs that pass a test, of a walk that has returned no value yet, and `acts` of any
+    /// walk. For every closure, `each` and `left` say which calls were made, and that each value is
+    /// what its call wrote: `each` of a walk that has returned no value yet.
     ///
     /// Cost: one visit for each value.
     ///

@@ -34,23 +34,23 @@ returns-in-Err-clause-found g c =
     let found = h c.in-Included.query.now c.in-Err.ensures.stands.1 c.in-Err.prev c.in-Err.ensures.stands.0 c.args.is_start ∙ sym c.side_of.ensures in
     told g.K.AsBytes.bytes c.args.self.now.pairs (ap (bound_bytes (λ (b : List ℕ). b)) c.in-Included.is) refl found
 
-pub returns-in-Err-find_gap-clause-found : goal.returns-in-Err-find_gap-clause-found
-returns-in-Err-find_gap-clause-found g c =
+pub returns-in-Err-at_or_before-clause-found : goal.returns-in-Err-at_or_before-clause-found
+returns-in-Err-at_or_before-clause-found g c =
     let h = number_within_excluded g.K.AsBytes.bytes c.args.self.now.pairs c.law.ensures.content c.law.ensures.distinct in
-    let f = c.in-Err-find_gap in
-    let found = h c.in-Excluded.query.now f.ensures.stands.1 f.prev f.ensures.stands.0 c.args.is_start ∙ sym c.side_of-in-Err-find_gap.ensures in
+    let f = c.in-Err-at_or_before in
+    let found = h c.in-Excluded.query.now f.ensures.stands.1 f.prev f.ensures.stands.0 c.args.is_start ∙ sym c.side_of-in-Err-at_or_before.ensures in
     told g.K.AsBytes.bytes c.args.self.now.pairs (ap (bound_bytes (λ (b : List ℕ). b)) c.in-Excluded.is) refl found
 
 pub returns-then-is_start-2-clause-found : goal.returns-then-is_start-2-clause-found
 returns-then-is_start-2-clause-found g c =
     let h = number_within_after g.K.AsBytes.bytes c.args.self.now.pairs c.law.ensures.content c.law.ensures.distinct in
-    let found = h c.in-Excluded.query.now c.in-Ok-find_gap.id c.in-Ok-find_gap.ensures.stands ∙ sym c.next_of.ensures in
+    let found = h c.in-Excluded.query.now c.in-Ok-at_or_before.id c.in-Ok-at_or_before.ensures.stands ∙ sym c.next_of.ensures in
     told g.K.AsBytes.bytes c.args.self.now.pairs (ap (bound_bytes (λ (b : List ℕ). b)) c.in-Excluded.is) c.if-is_start-2.true found
 
 pub returns-else-is_start-2-clause-found : goal.returns-else-is_start-2-clause-found
 returns-else-is_start-2-clause-found g c =
     let h = number_within_before g.K.AsBytes.bytes c.args.self.now.pairs c.law.ensures.content c.law.ensures.distinct in
-    let found = h c.in-Excluded.query.now c.in-Ok-find_gap.id c.in-Ok-find_gap.ensures.stands ∙ sym c.prev_of.ensures in
+    let found = h c.in-Excluded.query.now c.in-Ok-at_or_before.id c.in-Ok-at_or_before.ensures.stands ∙ sym c.prev_of.ensures in
     told g.K.AsBytes.bytes c.args.self.now.pairs (ap (bound_bytes (λ (b : List ℕ). b)) c.in-Excluded.is) c.if-is_start-2.false found
 
 pub returns-else-is_start-clause-none_counted : goal.returns-else-is_start-clause-none_counted
